@@ -4,7 +4,7 @@ use crate::frame::Frame;
 use std::alloc::{AllocError, Global};
 
 // Appends the attributes that say where the frame stands.
-fn put_place(out: &mut String, frame: &Frame<'_>) -> Result<(), AllocError> {
+fn put_left_top(out: &mut String, frame: &Frame<'_>) -> Result<(), AllocError> {
     put_attribute(out, "x", frame.left)?;
     put_attribute(out, "y", frame.top)
 }
@@ -28,7 +28,7 @@ fn put_head(out: &mut String, window: &Frame<'_>) -> Result<(), AllocError> {
 // Appends the view's rectangle.
 fn put_rectangle(out: &mut String, view: &Frame<'_>) -> Result<(), AllocError> {
     out.push_str("<rect")?;
-    put_place(out, view)?;
+    put_left_top(out, view)?;
     put_size(out, view)?;
     out.push_str(" fill=\"steelblue\" fill-opacity=\"0.2\" stroke=\"steelblue\"/>\n<text")
 }
@@ -36,7 +36,7 @@ fn put_rectangle(out: &mut String, view: &Frame<'_>) -> Result<(), AllocError> {
 // Appends a rectangle with the view's name in its corner.
 fn put_view(out: &mut String, view: &Frame<'_>) -> Result<(), AllocError> {
     put_rectangle(out, view)?;
-    put_place(out, view)?;
+    put_left_top(out, view)?;
     let name = view.name;
     write!(out, " dx=\"4\" dy=\"14\">{name}</text>\n")
 }

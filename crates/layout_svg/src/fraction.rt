@@ -4,7 +4,7 @@ use std::alloc::AllocError;
 // The most digits of a part.
 const DIGITS: usize = 13;
 
-// The thousandths of a unit: an attribute has three places.
+// The thousandths of a unit: an attribute has three decimals.
 const UNIT: u128 = 1000;
 
 /// A fraction, or a whole number over 1.
@@ -45,8 +45,8 @@ pub fn read_fraction(text: &str) -> Option<Fraction> {
     })
 }
 
-/// Appends the fraction as an attribute: a whole number, or one with three places after the point, rounded to
-/// the nearest, a half away from 0.
+/// Appends the fraction as an attribute: a whole number, or one with three decimals, rounded to the nearest,
+/// a half away from 0.
 pub fn put_attribute(out: &mut String, word: &str, f: Fraction) -> Result<(), AllocError> {
     let den = u128::from(f.den.max(1));
     let thousandths = (2 * UNIT * u128::from(f.num) + den) / (2 * den);
@@ -59,7 +59,7 @@ pub fn put_attribute(out: &mut String, word: &str, f: Fraction) -> Result<(), Al
     if u128::from(f.num) % den == 0 {
         write!(out, " {word}=\"{sign}{whole}\"")
     } else {
-        let places = thousandths % UNIT;
-        write!(out, " {word}=\"{sign}{whole}.{places:03}\"")
+        let decimals = thousandths % UNIT;
+        write!(out, " {word}=\"{sign}{whole}.{decimals:03}\"")
     }
 }
