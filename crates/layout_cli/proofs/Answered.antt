@@ -1,5 +1,5 @@
 -- What a line led to, and what was put of its reply.
-use Rattle.std.proofs.Common.{◌≡◌, ◌∙◌, Bool, true, false, ◌&&◌, is_ok, List, ℕ, refl, sym, subst, ap, inl, ◌<◌, length}
+use Rattle.std.proofs.Common.{◌≡◌, true, false, is_ok, List, ℕ, refl, sym, subst, inl, ◌<◌, length}
 use Rattle.std.specs.Prelude.{IfOk, IfErr, OnErr}
 use Rattle.std.specs.declared.result.Result.{Result}
 use Rattle.std.specs.declared.result.Result.TheVariants.{Ok, Err}
@@ -44,15 +44,3 @@ step_told old new line F (Err stop) step may same tells =
 -- a line that is too long is refused
 pub long_step : (old : State) (line : List ℕ) → 4096 < length line → Step old line (Limit word.Line) old
 long_step old line long = inl (long, refl, refl)
-
-pub and_false : (b : Bool) → (b && false) ≡ false
-and_false true = refl
-and_false false = refl
-
-abbrev error_or : {T E : Type 0} → E → Result T E → E
-error_or d (Ok x) = d
-error_or d (Err e) = e
-
--- the error that was passed on
-pub passed_on : {T E : Type 0} (r : Result T E) (was passed kind : E) → r ≡ Err passed → passed ≡ was → r ≡ Err kind → was ≡ kind
-passed_on {T = T} {E = E} r was passed kind is same end = sym same ∙ ap (λ (x : Result T E). error_or was x) (sym is ∙ end)

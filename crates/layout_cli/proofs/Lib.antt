@@ -1,9 +1,6 @@
 pub mod BestRuns
 pub mod Told
 pub mod Made
-pub mod Talks
 pub mod Answered
-pub mod Checked
+pub mod Lines
 pub mod Stops
-pub mod Counted
-pub mod Ways

@@ -1,22 +1,19 @@
 -- What was written where a run of a mode ends.
-use Rattle.std.specs.Prelude.{◌≡◌, ◌⊎◌, ℕ, ◌+◌, ◌<◌, ◌≤◌, Bool, true, false, List, [], ◌∷◌, ◌++◌, length, Option}
-use Rattle.std.specs.Prelude.{IfSome, IsErrOf, String}
-use Rattle.std.specs.Io.KnownBytes.{Appends, Consumes}
+use Rattle.std.specs.Prelude.{◌≡◌, ◌⊎◌, ℕ, ◌+◌, ◌<◌, ◌≤◌, Bool, true, false, List, [], length, Option}
+use Rattle.std.specs.Prelude.{IfSome, String}
+use Rattle.std.specs.Io.KnownBytes.{Appends}
 use Rattle.edge_io.specs.Cause.{Rose}
+use Rattle.edge_io.specs.Outside.{Counts, HasFront, IsCounted, Outside}
 use Rattle.program_words.specs.Words.{AreOther}
 use Rattle.program_words.specs.declared.mode.Mode.{Mode}
 use Rattle.program_words.specs.declared.mode.Mode.TheVariants.{Run}
-use Rattle.std.specs.declared.result.Result.{Result}
-use Rattle.std.specs.declared.result.Result.TheVariants.{Ok, Err}
-use Rattle.layout_cli.specs.declared.mode.TheConstants.{INPUT_LIMIT}
-use Rattle.layout_cli.specs.declared.script.ScriptStop.{ScriptStop}
-use Rattle.layout_cli.specs.declared.script.ScriptStop.TheVariants as script
+use Rattle.line_by_line.specs.Answers.{AnswersWhole, AnswersFirst, AnswersInPart}
+use Rattle.line_by_line.specs.Ends.{HasFilled, HasTaken}
 use Rattle.layout_cli.specs.declared.program.Status.{Status}
 use Rattle.layout_cli.specs.declared.program.Status.TheVariants as status
+use Rattle.layout_cli.specs.Machine.{IsRunOf}
 use Rattle.layout_cli.specs.Words.{NameMode, input_of, limit_of, usage_line}
 use Rattle.layout_cli.specs.Outputs.{IsOutputOf}
-use Rattle.reply_texts.specs.Printing.{HasFront}
-use Rattle.layout_cli.specs.Talks.{AnswersWhole, AnswersFirst, AnswersInPart}
 
 -- ---- what was written: from what was left in the source and held by the sink to what is
 
@@ -33,30 +30,25 @@ abbrev pub HasOutput : Mode → (left before now : Option (List ℕ)) → Bool �
 HasOutput mode left before now good = IfWithin mode left (λ input. (text : List ℕ)
     × IsOutputOf mode input text good × Appends before now text)
 
--- of a script, bytes within the limit were taken, and this holds of them
-abbrev pub HasTaken : (left rest : Option (List ℕ)) → (List ℕ → Type 0) → Type 0
-HasTaken left rest Is = (taken : List ℕ) × Consumes left rest taken × (length taken ≤ INPUT_LIMIT) × Is taken
-
 -- where the source failed: the replies to the whole lines that were read, or nothing in another mode
 abbrev pub AfterReadFault : Mode → (left rest before now : Option (List ℕ)) → Type 0
-AfterReadFault Run left rest before now = HasTaken left rest (AnswersWhole before now)
+AfterReadFault Run left rest before now = HasTaken left rest (AnswersWhole IsRunOf before now)
 AfterReadFault mode left rest before now = Appends before now []
 
 -- where the source gave more than the limit: the replies to the whole lines within it
 abbrev pub AfterTooLong : Mode → (left rest before now : Option (List ℕ)) → Type 0
-AfterTooLong Run left rest before now = (taken : List ℕ) × (byte : ℕ)
-    × Consumes left rest (taken ++ byte ∷ []) × (length taken ≡ INPUT_LIMIT) × AnswersWhole before now taken
+AfterTooLong Run left rest before now = HasFilled left rest (AnswersWhole IsRunOf before now)
 AfterTooLong mode left rest before now = Appends before now []
 
 -- where the sink failed: a front of the replies, or of the mode's output
 abbrev pub AfterWriteFault : Mode → (left rest before now : Option (List ℕ)) → Type 0
-AfterWriteFault Run left rest before now = HasTaken left rest (AnswersInPart before now rest)
+AfterWriteFault Run left rest before now = HasTaken left rest (AnswersInPart IsRunOf before now rest)
 AfterWriteFault mode left rest before now = IfWithin mode left (λ input. (text : List ℕ) × (good : Bool)
     × IsOutputOf mode input text good × HasFront before now text)
 
 -- where memory was wanting: the replies to some first whole lines, or nothing in another mode
 abbrev pub AfterNoMemory : Mode → (left rest before now : Option (List ℕ)) → Type 0
-AfterNoMemory Run left rest before now = HasTaken left rest (AnswersFirst before now)
+AfterNoMemory Run left rest before now = HasTaken left rest (AnswersFirst IsRunOf before now)
 AfterNoMemory mode left rest before now = Appends before now []
 
 -- ---- the same for any words
@@ -71,61 +63,11 @@ abbrev pub IsBrokenOff : {A : Type 0} → List (String A) → (left rest before 
 IsBrokenOff words left rest before now =
     Appends before now [] ⊎ NameMode words (λ mode. AfterNoMemory mode left rest before now)
 
--- ---- how often what is outside is called, and fails
-
--- how often a source was pulled, how often it failed, and how often a sink did
-pub record Counts : Type 0 where
-  pub pulls : ℕ
-  pub reads_failed : ℕ
-  pub writes_failed : ℕ
-
--- the counts of a source and a sink, by what tells them
-abbrev pub counts : {A B : Type 0} → (A → ℕ) → (A → ℕ) → (B → ℕ) → A × B → Counts
-counts pulls reads_failed writes_failed at = record {
-  pulls = pulls at.0;
-  reads_failed = reads_failed at.0;
-  writes_failed = writes_failed at.1;
-}
-
--- There were so many pulls more at the most. No pull failed, unless this is said; and no put, unless that is.
-pub record IsCounted (most : ℕ) (ReadFails WriteFails : Type 0) (old new : Counts) : Type 0 where
-  pub few : new.pulls ≤ old.pulls + most
-  pub reads : ReadFails ⊎ (new.reads_failed ≡ old.reads_failed)
-  pub writes : WriteFails ⊎ (new.writes_failed ≡ old.writes_failed)
-
--- a script's answers are counted so: a pull a byte at the most within the limit, and one that shows the end
-abbrev pub IsScriptCounted : Result Bool ScriptStop → Counts → Counts → Type 0
-IsScriptCounted result = IsCounted (INPUT_LIMIT + 1) (IsErrOf result script.ReadFault) (IsErrOf result script.WriteFault)
+-- ---- how a run may end
 
 -- a mode's run is counted so
 abbrev pub IsRunCounted : Mode → Status → Counts → Counts → Type 0
 IsRunCounted mode end = IsCounted (limit_of mode + 1) (end ≡ status.ReadFault) (end ≡ status.WriteFault)
-
--- ---- how a run may end
-
--- what a source has left and a sink holds, and how often each has failed
-pub record Outside : Type 0 where
-  pub left : Option (List ℕ)
-  pub reads_failed : ℕ
-  pub held : Option (List ℕ)
-  pub writes_failed : ℕ
-
--- what is outside, of these parts
-abbrev pub outside : Option (List ℕ) → ℕ → Option (List ℕ) → ℕ → Outside
-outside left reads_failed held writes_failed = record {
-  left = left;
-  reads_failed = reads_failed;
-  held = held;
-  writes_failed = writes_failed;
-}
-
--- This holds from what was outside before to what is: from one source and sink to others, by what tells of a
--- source and of a sink what it has left or holds, and how often it has failed.
-abbrev pub LeadsOutside : {A B : Type 0} → (A → Option (List ℕ)) → (A → ℕ) → (B → Option (List ℕ)) → (B → ℕ)
-    → (old new : A × B) → (Outside → Outside → Type 0) → Type 0
-LeadsOutside left reads_failed held writes_failed old new Leads =
-    Leads (outside (left old.0) (reads_failed old.0) (held old.1) (writes_failed old.1))
-    (outside (left new.0) (reads_failed new.0) (held new.1) (writes_failed new.1))
 
 -- from what was outside before to what is, the run of a mode may end so
 abbrev pub IsEndOf : Mode → Outside → Outside → Status → Type 0
@@ -139,12 +81,3 @@ IsEndOf mode old new status.WriteFault = Rose old.writes_failed new.writes_faile
 IsEndOf mode old new status.TooLong = IsTooLong mode old.left
     × AfterTooLong mode old.left new.left old.held new.held
 IsEndOf mode old new status.OutOfMemory = AfterNoMemory mode old.left new.left old.held new.held
-
--- a script may be answered so
-abbrev pub IsScriptEnd : Outside → Outside → Result Bool ScriptStop → Type 0
-IsScriptEnd old new (Ok true) = IsEndOf Run old new status.Done
-IsScriptEnd old new (Ok false) = IsEndOf Run old new status.Refused
-IsScriptEnd old new (Err script.ReadFault) = IsEndOf Run old new status.ReadFault
-IsScriptEnd old new (Err script.TooLong) = IsEndOf Run old new status.TooLong
-IsScriptEnd old new (Err script.WriteFault) = IsEndOf Run old new status.WriteFault
-IsScriptEnd old new (Err script.OutOfMemory) = IsEndOf Run old new status.OutOfMemory

@@ -1,9 +1,8 @@
 pub mod Machine
 pub mod Words
-pub mod Checks
 pub mod Outputs
 pub mod Making
-pub mod Talks
+pub mod Told
 pub mod Ends
 pub mod Laws
 pub mod Constants

@@ -21,6 +21,11 @@ GrammarStep old line reply new =
 abbrev pub Step : State → List ℕ → Reply → State → Type 0
 Step old line = Unless (LINE_LIMIT < length line) (Limit word.Line) old (GrammarStep old line)
 
+-- from the old session the line may get a reply of this text, accepted or not
+abbrev pub Answers : State → List ℕ → List ℕ → Bool → State → Type 0
+Answers old line text good new = (reply : Reply) × Step old line reply new × (text ≡ text_of new.scene reply)
+    × (good ≡ is_accepted reply)
+
 -- The text is that of replies to the lines, one after the other; all are accepted, or not; the last session.
 abbrev pub Run : State → List (List ℕ) → List ℕ → Bool → State → Type 0
 Run old [] text good new = (text ≡ []) × (good ≡ true) × (new ≡ old)

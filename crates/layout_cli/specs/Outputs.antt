@@ -3,7 +3,7 @@ use Rattle.std.specs.Prelude.{ℕ, Bool, List}
 use Rattle.program_words.specs.declared.mode.Mode.{Mode}
 use Rattle.program_words.specs.declared.mode.Mode.TheVariants.{Run, Check, Make}
 use Rattle.layout_cli.specs.Machine.{IsRunOf}
-use Rattle.layout_cli.specs.Checks.{IsCheckOf}
+use Rattle.claim_check.specs.Checks.{IsCheckOf}
 use Rattle.layout_cli.specs.Making.{IsMade}
 
 -- the text is a run of the script, the check of a problem and a claim, or what a run of the script that is

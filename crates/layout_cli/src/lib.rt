@@ -12,30 +12,30 @@
 //!                                               // `ok`, `frame window 0 0 320 480`, `ok`
 //! ```
 //!
-//! Each line of a script is answered before the next one is read. The contract of [`run`] has a clause for
-//! each [`Status`]; where the word is `run`, what is written is exactly what the machine of `session_undo`
-//! replies to the lines that were read.
+//! Each line of a script is answered before the next one is read: `line_by_line` asks for more only where all
+//! whole lines are answered. The contract of [`run`] has a clause for each [`Status`]; where the word is
+//! `run`, what is written is exactly what the machine of `session_undo` replies to the lines that were read.
 //!
-//! Invariant of a script's run (`IsTalk`): what was written are the replies to the whole lines that were
-//! taken, and the session is the one that these lines lead to.
+//! What always holds: what a run writes for its input is the output of the mode that its words name
+//! (`IsOutputOf` in `specs/`), whole or in front.
 //!
-//! In reading order: `program` ([`run`]), `mode` (what each mode reads). For `run`: `script` (the loop over
-//! the pulls) with `script::talk` (a session that answers lines) and `script::answers` (one line, whose reply
-//! `reply_texts` writes). For `check`: `input` (the whole input), `checking`. For `make`: `making`. `output`,
-//! `laws`.
+//! In reading order: `program` ([`run`]). For `run`: `talk` (a session that answers lines) and `answers` (one
+//! line, whose reply `reply_texts` writes). For `make`: `making`, with its `output`. `mode` (how much is
+//! read), `laws`. The mode `check` is `claim_check`'s.
 #![tactic(auto)]
 
-mod checking;
-mod input;
+mod answers;
 mod laws;
 mod making;
 mod mode;
 mod output;
 mod program;
-mod script;
+mod talk;
 
 pub use laws::{
     best_values_are_unique, counted_runs_are_runs, first_values_are_best, runs_lead_to_best_values,
 };
-pub use mode::{CHECK_LIMIT, INPUT_LIMIT, constants_are_as_said};
+pub use claim_check::CHECK_LIMIT;
+pub use line_by_line::INPUT_LIMIT;
+pub use mode::constants_are_as_said;
 pub use program::{Status, run};

@@ -8,7 +8,7 @@ ghost use Rattle.layout_cli.specs.Machine.{Step};
 ghost use Rattle.layout_cli.specs.Making.{IsMade, Refuses, last_line, refusal_count, summary_line};
 
 use crate::output::Output;
-use crate::script::answers::step;
+use crate::answers::step;
 use frac_core::OutOfMemory;
 use make_script::make_script;
 use reply_texts::push_at;

@@ -2,22 +2,20 @@
 ghost use Rattle.std.specs.Prelude.{◌≡◌, ◌⊎◌, ◌+◌, ◌≤◌, ℕ, List, Option, true, false};
 ghost use Rattle.std.specs.Io.KnownBytes.{Appends};
 ghost use Rattle.edge_io.specs.Cause.{Rose};
+ghost use Rattle.edge_io.specs.Outside.{HasFront, LeadsOutside, counts, outside};
 ghost use Rattle.layout_cli.specs.Ends.{AfterReadFault, AfterTooLong, HasOutput, IsBrokenOff, IsCutShort};
-ghost use Rattle.layout_cli.specs.Ends.{IsEndOf, IsRunCounted, IsTooLong, LeadsOutside, counts, outside};
-ghost use Rattle.reply_texts.specs.Printing.{HasFront};
+ghost use Rattle.layout_cli.specs.Ends.{IsEndOf, IsRunCounted, IsTooLong};
 ghost use Rattle.layout_cli.specs.Words.{NameMode, Pulls, limit_of, usage_line};
 ghost use Rattle.program_words.specs.Words.{AreOther};
 ghost use Rattle.program_words.specs.declared.mode.Mode.TheVariants.{Run, Check, Make};
 
-use crate::checking::check_input;
-use crate::input::{InputStop, read_all};
 use crate::making::make_and_run;
-use crate::mode::CHECK_LIMIT;
 use crate::output::Output;
-use crate::script::ScriptStop;
-use crate::script::talk::talk_over;
+use crate::talk::talk_over;
+use claim_check::{CheckStop, check_claim};
 use edge_io::{Sink, Source, put_all};
 use frac_core::OutOfMemory;
+use line_by_line::ScriptStop;
 use program_words::{Mode, mode_of};
 use std::alloc::Global;
 
@@ -127,15 +125,13 @@ fn run_check<S: Source, K: Sink>(alloc: Global, source: &mut S, sink: &mut K) ->
     ensures ends { LeadsOutside S.left S.faults K.held K.faults (source.old, sink.old) (source.new, sink.new)
         (λ old new. IsEndOf Check old new result) }
 {
-    let input = match read_all(alloc, source, CHECK_LIMIT) {
-        Ok(input) => input,
-        Err(InputStop::Fault) => return Status::ReadFault,
-        Err(InputStop::TooLong) => return Status::TooLong,
-        Err(InputStop::OutOfMemory) => return Status::OutOfMemory,
-    };
-    match check_input(alloc, &input) {
-        Ok(output) => put_output(&output, sink),
-        Err(OutOfMemory) => Status::OutOfMemory,
+    match check_claim(alloc, source, sink) {
+        Ok(true) => Status::Done,
+        Ok(false) => Status::Refused,
+        Err(CheckStop::ReadFault) => Status::ReadFault,
+        Err(CheckStop::WriteFault) => Status::WriteFault,
+        Err(CheckStop::TooLong) => Status::TooLong,
+        Err(CheckStop::OutOfMemory) => Status::OutOfMemory,
     }
 }
 

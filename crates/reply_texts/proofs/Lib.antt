@@ -2,3 +2,4 @@ pub mod EachView
 pub mod Texts
 pub mod Printed
 pub mod AttrNames
+pub mod Told

@@ -1,41 +1,23 @@
 -- Text that has gone to a sink in part.
-use Rattle.std.proofs.Common.{◌≡◌, ◌∙◌, ℕ, zero, suc, ◌+◌, ◌<◌, ◌≤◌, List, [], ◌∷◌, ◌++◌, length, take, drop, take_all, Some, None, refl, sym, ap, subst, arith, append_assoc, length-append, add-one, flat_map}
+use Rattle.std.proofs.Common.{◌≡◌, ◌∙◌, ℕ, zero, suc, ◌+◌, ◌<◌, ◌≤◌, List, [], ◌∷◌, ◌++◌, length, take, drop, take_all, refl, sym, ap, subst, arith, append_assoc, add-one, flat_map}
 use Rattle.std.specs.declared.option.Option.{Option}
 use Rattle.std.specs.declared.result.Result.{Result}
 use Rattle.std.specs.declared.result.Result.TheVariants.{Ok, Err}
-use Rattle.std.specs.Prelude.{slice_get, OnOk, OnErr}
+use Rattle.std.specs.Prelude.{slice_get, OnOk}
 use Rattle.std.specs.Io.KnownBytes.{Appends}
-use Rattle.std.proofs.lemmas.List.{append-nil, take-append-le}
-use Rattle.std.proofs.Math.Seq.{take-append-add}
+use Rattle.std.proofs.lemmas.List.{append-nil}
 use Rattle.std.proofs.lemmas.Result.{on_err_weaker}
 use Rattle.edge_io.specs.Cause.{HasCause, Rose}
-use Rattle.edge_io.proofs.Moves.{appends_both}
+use Rattle.edge_io.specs.Outside.{HasFront}
+use Rattle.edge_io.proofs.Moves.{appends_both, front_first, front_then}
 use Rattle.frac_core.specs.Fraction.{Fraction}
 use Rattle.view_tree.specs.Views.{LiveView}
 use Rattle.reply_texts.specs.Replies.{frame_text}
-use Rattle.reply_texts.specs.Printing.{HasFront, Puts, frame_line_of}
-
--- nothing was put
-pub appends_none : (a : Option (List ℕ)) → Appends a a []
-appends_none None = tt
-appends_none (Some x) = sym (append-nil x)
-
--- a front of the first text is a front of both
-pub front_first : (a b : Option (List ℕ)) (this rest : List ℕ) → HasFront a b this → HasFront a b (this ++ rest)
-front_first a b this rest front =
-    (front.0, omega (arith, length-append this rest, front.1), subst (Appends a b) (sym (take-append-le front.0 this rest front.1)) front.2)
+use Rattle.reply_texts.specs.Printing.{Puts, frame_line_of}
 
 -- the count was the same before
 pub cause_since : {T E : Type 0} (a b c : ℕ) (r : Result T E) → b ≡ a → HasCause b c r → HasCause a c r
 cause_since a b c r before cause = subst (λ (k : ℕ). HasCause k c r) before cause
-
--- all of the first text and then a front of the next are a front of both
-pub front_then : (a b c : Option (List ℕ)) (this rest : List ℕ) → Appends a b this → HasFront b c rest → HasFront a c (this ++ rest)
-front_then a b c this rest put front = (
-  length this + front.0,
-  omega (arith, length-append this rest, front.1),
-  subst (Appends a c) (sym (take-append-add this rest front.0)) (appends_both a b c this (take front.0 rest) put front.2),
-)
 
 -- ---- results
 

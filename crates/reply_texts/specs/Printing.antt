@@ -1,16 +1,13 @@
 -- Text that goes to a sink piece by piece.
-use Rattle.std.specs.Prelude.{ℕ, ◌≤◌, List, [], length, take, Option, Some, None, slice_get}
+use Rattle.std.specs.Prelude.{ℕ, List, [], Option, Some, None, slice_get}
 use Rattle.std.specs.Prelude.{Result, OnOk, OnErr}
 use Rattle.std.specs.Io.KnownBytes.{Appends}
 use Rattle.edge_io.specs.Cause.{HasCause}
+use Rattle.edge_io.specs.Outside.{HasFront}
 use Rattle.frac_core.specs.Fraction.{Fraction}
 use Rattle.view_tree.specs.Views.{LiveView}
 use Rattle.scenes.specs.Scene.{Scene}
 use Rattle.reply_texts.specs.Replies.{frame_text}
-
--- some first bytes of the text were appended
-abbrev pub HasFront : Option (List ℕ) → Option (List ℕ) → List ℕ → Type 0
-HasFront before now text = (n : ℕ) × (n ≤ length text) × Appends before now (take n text)
 
 -- the text was put into a sink, or a front of it where the sink failed
 pub record Puts {K T E : Type 0} (held : K → Option (List ℕ)) (faults : K → ℕ) (old new : K) (text : List ℕ)

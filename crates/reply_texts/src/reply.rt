@@ -1,5 +1,5 @@
 // The text of replies.
-ghost use Rattle.std.specs.Prelude.{◌≡◌, ◌≤◌, ◌+◌, ◌++◌, IfOk, OnOk, IsOk, codes, vec_len};
+ghost use Rattle.std.specs.Prelude.{◌≡◌, ◌≤◌, ◌+◌, ◌++◌, IfOk, OnOk, OnErr, IsOk, codes, vec_len};
 ghost use Rattle.std.specs.Prelude.{vec_capacity};
 ghost use Rattle.std.specs.List.{flat_map};
 ghost use Rattle.reply_texts.specs.Replies.{text_of, frames_text, rows_text, name_lines};
@@ -7,7 +7,6 @@ ghost use Rattle.reply_texts.specs.Replies.{certificate_text, diagnosis_text, li
 ghost use Rattle.diagnosis.specs.Diagnoses.{findings_of};
 ghost use Rattle.session_undo.specs.Replies.{accepted, IsChange, Tells};
 ghost use Rattle.reply_texts.specs.declared.reply.TheConstants.{OK_LENGTH};
-ghost use Rattle.session_undo.specs.declared.reply.Reply.TheVariants.{Done};
 
 use crate::found::push_found;
 use crate::frames::push_frames;
@@ -18,12 +17,14 @@ use claim_writing::{best_text, rows_text};
 use diagnosis::Diagnosis;
 use frac_core::OutOfMemory;
 use session_undo::{Refusal, Reply, Session};
+use std::alloc::Global;
 
 /// The length of the reply to a change: `ok` and the end of the line.
 pub const OK_LENGTH: usize = 3;
 
 fn push_ok(out: &mut Vec<u8>) -> Result<(), OutOfMemory>
     ensures text { IfOk result (λ _. out.new.items ≡ out.old.items ++ line_of (codes "ok")) }
+    ensures unchanged { OnErr result (out.new.items ≡ out.old.items) }
     ensures room { vec_len out.old + OK_LENGTH ≤ vec_capacity out.old → IsOk result }
 {
     out.extend_from_slice(b"ok\n")?;
@@ -75,9 +76,8 @@ fn show_found(session: &Session, found: &Diagnosis, out: &mut Vec<u8>) -> Result
 
 // Appends the text of the reply to an accepted line.
 fn push_reply(session: &Session, reply: &Reply, out: &mut Vec<u8>) -> Result<(), OutOfMemory>
-    ensures text { IfOk result (λ _. out.new.items
+    ensures { IfOk result (λ _. out.new.items
         ≡ out.old.items ++ text_of session.now.scene (accepted reply.now)) }
-    ensures room { reply.now ≡ Done → vec_len out.old + OK_LENGTH ≤ vec_capacity out.old → IsOk result }
 {
     match reply {
         Reply::Silent => Ok(()),
@@ -89,8 +89,51 @@ fn push_reply(session: &Session, reply: &Reply, out: &mut Vec<u8>) -> Result<(),
     }
 }
 
-/// Appends the lines of the reply to a command of the session; there are none for want of memory. Where a
-/// change was made, room for [`OK_LENGTH`] bytes is enough.
+// Appends the text of the reply to a command, or a part of it.
+fn push_told(
+    session: &Session,
+    reply: &Result<Reply, Refusal>,
+    out: &mut Vec<u8>,
+) -> Result<(), OutOfMemory>
+    ensures { OnOk result (Tells (λ told. out.new.items
+        ≡ out.old.items ++ text_of session.now.scene told) reply.now) }
+{
+    match reply {
+        Ok(reply) => push_reply(session, reply, out),
+        Err(refusal) => push_refusal(session.state().tree(), refusal, out),
+    }
+}
+
+// The text of the reply to a command.
+fn text_for(
+    alloc: Global,
+    session: &Session,
+    reply: &Result<Reply, Refusal>,
+) -> Result<Vec<u8>, OutOfMemory>
+    ensures { IfOk result (λ text. Tells (λ told. text.items ≡ text_of session.now.scene told) reply.now) }
+{
+    let mut text = Vec::new(alloc);
+    push_told(session, reply, &mut text)?;
+    Ok(text)
+}
+
+// Appends the text of the reply to a command, whole or not at all.
+fn append_text(
+    session: &Session,
+    reply: &Result<Reply, Refusal>,
+    out: &mut Vec<u8>,
+) -> Result<(), OutOfMemory>
+    ensures text { OnOk result (Tells (λ told. out.new.items
+        ≡ out.old.items ++ text_of session.now.scene told) reply.now) }
+    ensures unchanged { OnErr result (out.new.items ≡ out.old.items) }
+{
+    let text = text_for(*out.allocator(), session, reply)?;
+    out.extend_from_slice(&text)?;
+    Ok(())
+}
+
+/// Appends the lines of the reply to a command of the session; there are none for want of memory, after which
+/// nothing was appended. Where a change was made, room for [`OK_LENGTH`] bytes is enough.
 pub fn reply_text(
     session: &Session,
     reply: &Result<Reply, Refusal>,
@@ -98,10 +141,11 @@ pub fn reply_text(
 ) -> Result<(), OutOfMemory>
     ensures text { OnOk result (Tells (λ told. out.new.items
         ≡ out.old.items ++ text_of session.now.scene told) reply.now) }
+    ensures unchanged { OnErr result (out.new.items ≡ out.old.items) }
     ensures room { IsChange reply.now → vec_len out.old + OK_LENGTH ≤ vec_capacity out.old → IsOk result }
 {
     match reply {
-        Ok(reply) => push_reply(session, reply, out),
-        Err(refusal) => push_refusal(session.state().tree(), refusal, out),
+        Ok(Reply::Done) => push_ok(out),
+        _ => append_text(session, reply, out),
     }
 }

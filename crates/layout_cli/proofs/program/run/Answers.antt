@@ -2,7 +2,8 @@ use Rattle.std.proofs.Common.{inr, rules, subst}
 use Rattle.program_words.specs.Words.{AreWordsOf}
 use Rattle.program_words.specs.declared.mode.Mode.{Mode}
 use Rattle.program_words.specs.declared.mode.Mode.TheVariants.{Make}
-use Rattle.layout_cli.specs.Ends.{Outside, IsEndOf}
+use Rattle.edge_io.specs.Outside.{Outside}
+use Rattle.layout_cli.specs.Ends.{IsEndOf}
 use Rattle.layout_cli.specs.declared.program.Status.TheVariants as status
 use Rattle.layout_cli.proofs.Stops.{ended_as, none_rose}
 use Rattle.layout_cli.proofs.program.run.Goals as goal

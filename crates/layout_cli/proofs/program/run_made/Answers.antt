@@ -1,4 +1,4 @@
-use Rattle.layout_cli.specs.Ends.{Outside}
+use Rattle.edge_io.specs.Outside.{Outside}
 use Rattle.layout_cli.proofs.Stops.{made_ends}
 use Rattle.layout_cli.proofs.program.run_made.Goals as goal
 

@@ -1,6 +1,7 @@
 use Rattle.std.proofs.Common.{refl, subst, List, ℕ, arith}
 use Rattle.std.specs.Io.KnownBytes.{Appends}
-use Rattle.reply_texts.proofs.Printed.{appends_none, puts_as}
+use Rattle.edge_io.proofs.Moves.{appends_none}
+use Rattle.reply_texts.proofs.Printed.{puts_as}
 use Rattle.reply_texts.proofs.printing.print_at.Goals as goal
 
 pub returns-in-Some : goal.returns-in-Some

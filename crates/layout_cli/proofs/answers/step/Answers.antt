@@ -1,0 +1,12 @@
+use Rattle.script_text.specs.View.{view}
+use Rattle.session_undo.specs.Replies.{Reply}
+use Rattle.session_undo.specs.Machine.{MeaningStep}
+use Rattle.session_undo.proofs.Commands.Chains.{err-map}
+use Rattle.layout_cli.specs.Machine.{Step}
+use Rattle.layout_cli.proofs.Told.{step-read}
+use Rattle.layout_cli.proofs.answers.step.Goals as goal
+
+pub returns-in-Ok-clause-refused : goal.returns-in-Ok-clause-refused
+returns-in-Ok-clause-refused c =
+    err-map (λ (reply : Reply). MeaningStep c.args.session.now (view c.in-Ok.command) reply c.args.session.now) (λ (reply : Reply). Step c.args.session.now c.args.line.now reply c.args.session.now) c.apply.result
+    (λ reply step. step-read c.args.session.now c.args.line.now (view c.in-Ok.command) c.if-line-gt-LINE_LIMIT.false c.in-Ok.ensures.sound reply c.args.session.now step) c.apply.ensures.refused

@@ -1,6 +1,0 @@
-use Rattle.std.proofs.lemmas.Result.{IfOk-weaker}
-use Rattle.layout_cli.proofs.Checked.{claim_answered}
-use Rattle.layout_cli.proofs.checking.answer_to.Goals as goal
-
-pub returns-in-Ok : goal.returns-in-Ok
-returns-in-Ok c = IfOk-weaker c.claim_answer.result _ _ (λ a is. claim_answered _ _ _ c.in-Ok.problem _ a c.cut_input-cut.ensures.cut c.in-Ok.ensures.read c.cut_input-cut.ensures.count is) c.claim_answer.ensures

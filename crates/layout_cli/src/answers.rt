@@ -1,0 +1,103 @@
+// The replies to lines.
+ghost use Rattle.std.specs.Prelude.{◌≡◌, ◌≤◌, [], IfOk, IfErr, IsErrOf, OnOk, OnErr, vec_capacity};
+ghost use Rattle.std.specs.Io.KnownBytes.{Appends};
+ghost use Rattle.edge_io.specs.Outside.{HasFront};
+ghost use Rattle.frac_core.specs.declared.memory.Stop.TheVariants.{OutOfMemory as NoMemory};
+ghost use Rattle.line_by_line.specs.Answers.{HasStopCause, sink_failed};
+ghost use Rattle.layout_cli.specs.Machine.{Step};
+ghost use Rattle.reply_texts.specs.Replies.{text_of};
+ghost use Rattle.layout_cli.specs.Told.{IsTold, IsToldInPart};
+ghost use Rattle.reply_texts.specs.declared.reply.TheConstants.{OK_LENGTH};
+ghost use Rattle.session_undo.specs.Replies.{accepted, IsChange, MayRefuse, Tells};
+ghost use Rattle.session_undo.specs.Replies as reply;
+
+use edge_io::{LINE_LIMIT, Sink, put_all};
+use frac_core::Stop;
+use line_by_line::AnswerStop;
+use name_tables::LimitWord;
+use reply_texts::{OK_LENGTH, print_frames, reply_text};
+use script_text::read_line;
+use session_undo::{Refusal, Reply, Session};
+use span_text::SyntaxAt;
+use std::alloc::Global;
+
+/// Does what a line says.
+pub(crate) fn step(alloc: Global, session: &mut Session, line: &[u8]) -> Result<Reply, Refusal>
+    ensures accepted { IfOk result (λ reply. Step session.old line.now (accepted reply) session.new) }
+    ensures refused { IfErr result (MayRefuse (λ reply. Step session.old line.now reply session.old)) }
+    ensures same { OnErr result (session.new ≡ session.old) }
+{
+    if line.len() > LINE_LIMIT {
+        return Err(Refusal::Limit(LimitWord::Line));
+    }
+    match read_line(alloc, line) {
+        Ok(command) => session.apply(command),
+        Err(Stop::Refused(SyntaxAt(at))) => Err(Refusal::Syntax(at)),
+        Err(Stop::OutOfMemory) => Err(Refusal::OutOfMemory),
+    }
+}
+
+/// Puts a reply, or a front of it. Frames go to the sink as they are; the text of another reply is made
+/// first.
+pub(crate) fn put_reply<K: Sink>(
+    session: &Session,
+    reply: &Result<Reply, Refusal>,
+    text: &mut Vec<u8>,
+    sink: &mut K,
+) -> Result<(), AnswerStop>
+    requires empty { text.old.items ≡ [] }
+    requires room { OK_LENGTH ≤ vec_capacity text.old }
+    ensures put { OnOk result (Tells (λ told.
+        Appends (K.held sink.old) (K.held sink.new) (text_of session.now.scene told)) reply.now) }
+    ensures front { IsErrOf result sink_failed → Tells (λ told.
+        HasFront (K.held sink.old) (K.held sink.new) (text_of session.now.scene told)) reply.now }
+    ensures cause { HasStopCause K.faults sink.old sink.new result }
+    ensures unchanged { IsErrOf result NoMemory → IsChange reply.now → ⊥ }
+{
+    if let Ok(Reply::Frames) = reply {
+        print_frames(session, sink)?;
+        return Ok(());
+    }
+    reply_text(session, reply, text)?;
+    put_all(sink, text)?;
+    Ok(())
+}
+
+/// Does what a line says, puts the reply, and says whether it is no refusal. The room for `ok` is there
+/// before a change is made.
+pub(crate) fn answer<K: Sink>(
+    session: &mut Session,
+    line: &[u8],
+    text: &mut Vec<u8>,
+    sink: &mut K,
+) -> Result<bool, AnswerStop>
+    ensures told { IfOk result
+        (IsTold session.old line.now session.new (K.held sink.old) (K.held sink.new)) }
+    ensures front { IsErrOf result sink_failed
+        → IsToldInPart session.old line.now (K.held sink.old) (K.held sink.new) }
+    ensures cause { HasStopCause K.faults sink.old sink.new result }
+    ensures same { IsErrOf result NoMemory → session.new ≡ session.old }
+{
+    text.clear();
+    text.reserve(OK_LENGTH)?;
+    let reply = step(*text.allocator(), session, line);
+    put_reply(session, &reply, text, sink)?;
+    Ok(reply.is_ok())
+}
+
+/// Puts the refusal of a line that is too long.
+pub(crate) fn refuse_long<K: Sink>(
+    session: &Session,
+    text: &mut Vec<u8>,
+    sink: &mut K,
+) -> Result<(), AnswerStop>
+    ensures put { OnOk result (Appends (K.held sink.old) (K.held sink.new)
+        (text_of session.now.scene (reply.Limit LimitWord.Line))) }
+    ensures front { IsErrOf result sink_failed → HasFront (K.held sink.old) (K.held sink.new)
+        (text_of session.now.scene (reply.Limit LimitWord.Line)) }
+    ensures cause { HasStopCause K.faults sink.old sink.new result }
+{
+    text.clear();
+    text.reserve(OK_LENGTH)?;
+    put_reply(session, &Err(Refusal::Limit(LimitWord::Line)), text, sink)
+}

@@ -1,0 +1,4 @@
+pub mod Answers
+pub mod Talks
+pub mod Ends
+pub mod Constants
