@@ -102,24 +102,24 @@ module _ (old : State) (draft : Scene) (reply : Reply) (new : State) where
   abbrev pub HasLeavingRoom : Type 0
   HasLeavingRoom = (p : Problem) → IsProblemOf draft p → HasRoomToLeave old p
 
-  left : (rows : List Row) (kept : List Mark) (l : Leaving) (stop : RunStop) → HasRoomToLeave old (draft_problem draft rows) → IsLeaving old.scene draft rows kept l → IsLeftStop (stood_of old.scene) kept l old.budget stop → IsConflict stop
-  left rows kept l stop room leaves h =
+  left : (rows : List Row) (l : Leaving) (stop : RunStop) → HasRoomToLeave old (draft_problem draft rows) → IsLeaving old.scene draft rows l → IsLeftStop (stood_of old.scene) old.scene.corner l old.budget stop → IsConflict stop
+  left rows l stop room leaves h =
       let q : Problem = without l (stood_of old.scene) in
-      stops false q q.rows (FromRemoved (stood_of old.scene) kept l.rows l.rows q) old.budget stop
+      stops false q q.rows (FromRemoved (stood_of old.scene) old.scene.corner l.rows l.rows q) old.budget stop
       (subst (λ (p : Problem). HasRoom p.rows old.budget p) leaves.left room.0) h
 
-  held : (rows : List Row) (kept : List Mark) (l : Leaving) (still : List ℕ) (at : UnfitPath) → FitsOnTheWay old.scene (draft_problem draft rows) → IsLeaving old.scene draft rows kept l → still ≢ [] → IsHeldPath (stood_of old.scene) kept l.rows still at → ⊥
-  held rows kept l still at fits leaves some h =
+  held : (rows : List Row) (l : Leaving) (still : List ℕ) (at : UnfitPath) → FitsOnTheWay old.scene (draft_problem draft rows) → IsLeaving old.scene draft rows l → still ≢ [] → IsHeldPath (stood_of old.scene) old.scene.corner l.rows still at → ⊥
+  held rows l still at fits leaves some h =
       let q : Problem = without_rows h.gone (stood_of old.scene) in
-      unfit-there false q q.rows (FromRemoved (stood_of old.scene) kept l.rows h.gone q) at.path at.quantity
+      unfit-there false q q.rows (FromRemoved (stood_of old.scene) old.scene.corner l.rows h.gone q) at.path at.quantity
       (fits l leaves.can leaves.rising leaves.left h.gone still h.in_order some) h.stop.2
 
   cannot : (stop : RemoveStop) → HasLeavingRoom → CannotLeave old.scene draft old.budget stop → TellsStill old stop reply new → ⊥
   cannot (removal.Unfit still at) room h told =
       let roomy : HasRoomToLeave old (draft_problem draft h.rows) = room (draft_problem draft h.rows) (h.are, refl) in
       elim h.stops [
-        | inl way ↦ held h.rows h.kept h.leaving still.items at roomy.1 h.leaves way.0 way.1
-        | inr end ↦ left h.rows h.kept h.leaving (run.Unfit at) roomy h.leaves end.1
+        | inl way ↦ held h.rows h.leaving still.items at roomy.1 h.leaves way.0 way.1
+        | inr end ↦ left h.rows h.leaving (run.Unfit at) roomy h.leaves end.1
       ]
   cannot (removal.Spent path) room h told = told
   cannot removal.OutOfMemory room h told = told
@@ -129,7 +129,7 @@ module _ (old : State) (draft : Scene) (reply : Reply) (new : State) where
   leaves-free room (inr (inl h)) = absurd (cannot h.stop room h.stopped h.told)
   leaves-free room (inr (inr h)) =
       let s = h.stopped in
-      absurd (left s.rows s.kept s.leaving (run.Spent h.path) (room (draft_problem draft s.rows) (s.are, refl)) s.leaves s.stops)
+      absurd (left s.rows s.leaving (run.Spent h.path) (room (draft_problem draft s.rows) (s.are, refl)) s.leaves s.stops)
 
 -- ---- probes
 

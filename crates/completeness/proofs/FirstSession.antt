@@ -2,6 +2,7 @@
 use Rattle.std.proofs.Common.{◌≡◌, ◌∙◌, ℕ, List, ◌++◌, pos, refl, sym, ap, ap₂, subst, arith, inl, inr, ◌⊎◌, false, true≢false}
 use Rattle.std.proofs.lemmas.List.Elements.{All-from_recursion}
 use Rattle.frac_core.specs.Fraction.{Fraction}
+use Rattle.problem_core.specs.declared.parts.Mark.{Mark}
 use Rattle.problem_core.specs.declared.parts.Stay.{Stay}
 use Rattle.problem_core.specs.Layout.{Assignment, IsInConflict, Problem, Row, Satisfies, error, line_of_row}
 use Rattle.problem_core.specs.Window.{structural_rows}
@@ -14,14 +15,14 @@ use Rattle.session_undo.specs.State.{State, first_state}
 use Rattle.scenes.specs.Scene.{first_scene, with_metric}
 use Rattle.completeness.specs.Examples.{first}
 use Rattle.completeness.specs.Room.{HasRoom}
-use Rattle.completeness.specs.Laws.{IsDecided, IsRefused}
+use Rattle.completeness.specs.Laws.{FirstMetricsAreAccepted, IsDecided, IsRefused}
 use Rattle.completeness.proofs.FirstBlocks.{first-whole}
 use Rattle.completeness.proofs.FirstFits.{first-fits}
 use Rattle.completeness.proofs.Lines.{changes-answered}
 
 -- the draft of a metric has the first scene's problem
-same-problem : (name : List ℕ) (value : Fraction) (p : Problem) → IsProblemOf (with_metric first_scene name value) p → p ≡ first
-same-problem name value p ((front, back, is, front_is, back_is), stays) =
+same-problem : (corner : List Mark) (name : List ℕ) (value : Fraction) (p : Problem) → IsProblemOf (with_metric (first_scene corner) name value) p → p ≡ first
+same-problem corner name value p ((front, back, is, front_is, back_is), stays) =
     let rows : p.rows ≡ structural_rows = is ∙ ap₂ (λ (a b : List Row). a ++ b) front_is back_is in
     ap₂ (λ (rs : List Row) (ss : List Stay). (let q : Problem = record { rows = rs; stays = ss } in q)) rows stays
 
@@ -36,13 +37,13 @@ pub no-cause : {Fact Same N A : Type 0} (refusal : Reply) → is_accepted refusa
 no-cause refusal bad (inl (fact, is, same)) = absurd (no-refusal refusal bad is)
 no-cause refusal bad (inr (n, a)) = a
 
-first-problem : (name : List ℕ) (value : Fraction) (p : Problem) → Poses first_state (mean.Metric name value) p → p ≡ first
-first-problem name value p h =
+first-problem : (corner : List Mark) (name : List ℕ) (value : Fraction) (p : Problem) → Poses (first_state corner) (mean.Metric name value) p → p ≡ first
+first-problem corner name value p h =
     let rest = no-cause (Limit word.Constant) refl (no-cause (Limit word.Metrics) refl (no-cause (Limit word.Name) refl (no-cause (Taken name) refl h))) in
-    same-problem name value p (no-cause (Limit word.Constant) refl rest.2)
+    same-problem corner name value p (no-cause (Limit word.Constant) refl rest.2)
 
-first-room : (name : List ℕ) (value : Fraction) (p : Problem) → Poses first_state (mean.Metric name value) p → HasRoom structural_rows 100000 p
-first-room name value p h = subst (HasRoom structural_rows 100000) (sym (first-problem name value p h)) has-room
+first-room : (corner : List Mark) (name : List ℕ) (value : Fraction) (p : Problem) → Poses (first_state corner) (mean.Metric name value) p → HasRoom structural_rows 100000 p
+first-room corner name value p h = subst (HasRoom structural_rows 100000) (sym (first-problem corner name value p h)) has-room
 
 -- all is 0
 nothing : Assignment
@@ -52,13 +53,18 @@ satisfied : Satisfies first nothing
 unfolding nothing
 satisfied = All-from_recursion (λ r. r.rank ≡ 1000 → error nothing (line_of_row r) ≡ 0) first.rows ((λ e. refl), ((λ e. refl), ((λ e. refl), ((λ e. refl), tt))))
 
-done : (name : List ℕ) (value : Fraction) (reply : Reply) (p : Problem) → Poses first_state (mean.Metric name value) p → IsDecided p reply → reply ≡ Done
-done name value reply p h (inl (possible, is)) = is
-done name value reply p h (inr (none, told)) = absurd (subst IsInConflict (first-problem name value p h) none nothing satisfied)
+done : (corner : List Mark) (name : List ℕ) (value : Fraction) (reply : Reply) (p : Problem) → Poses (first_state corner) (mean.Metric name value) p → IsDecided p reply → reply ≡ Done
+done corner name value reply p h (inl (possible, is)) = is
+done corner name value reply p h (inr (none, told)) = absurd (subst IsInConflict (first-problem corner name value p h) none nothing satisfied)
 
-pub first-metrics : (name : List ℕ) (value : Fraction) (reply : Reply) (new : State) → MeaningStep first_state (mean.Metric name value) reply new → IsRefused first_state (mean.Metric name value) reply new ⊎ (reply ≡ Done)
-first-metrics name value reply new h =
-    elim (changes-answered first_state (mean.Metric name value) reply new tt (first-room name value) h) [
+first-metrics-at : (corner : List Mark) (name : List ℕ) (value : Fraction) (reply : Reply) (new : State) → MeaningStep (first_state corner) (mean.Metric name value) reply new → IsRefused (first_state corner) (mean.Metric name value) reply new ⊎ (reply ≡ Done)
+first-metrics-at corner name value reply new h =
+    elim (changes-answered (first_state corner) (mean.Metric name value) reply new tt (first-room corner name value) h) [
       | inl cause ↦ inl cause
-      | inr answer ↦ inr (done name value reply answer.0 answer.1 answer.2)
+      | inr answer ↦ inr (done corner name value reply answer.0 answer.1 answer.2)
     ]
+
+pub first-metrics : FirstMetricsAreAccepted
+first-metrics first new-session name value reply new h =
+    subst (λ (s : State). IsRefused s (mean.Metric name value) reply new ⊎ (reply ≡ Done)) (sym new-session.1)
+    (first-metrics-at first.scene.corner name value reply new (subst (λ (s : State). MeaningStep s (mean.Metric name value) reply new) new-session.1 h))

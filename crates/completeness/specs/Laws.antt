@@ -1,6 +1,7 @@
 -- With room each line is answered.
 use Rattle.std.specs.Prelude.{◌≡◌, ◌≢◌, ◌⊎◌, ℕ, ◌<◌, ◌≤◌, true, List, [], ◌∷◌}
 use Rattle.frac_core.specs.Fraction.{Fraction}
+use Rattle.problem_core.specs.declared.parts.Mark.{Mark}
 use Rattle.problem_core.specs.Layout.{Assignment, IsInConflict, Problem, Row, Satisfies}
 use Rattle.cert_core.specs.declared.by.By.{By}
 use Rattle.corner_laws.specs.Laws.{AllFit}
@@ -14,7 +15,7 @@ use Rattle.session_undo.specs.Machine.{Spends, Tried}
 use Rattle.session_undo.specs.Replies.{Conflict, Done, Reply, is_accepted}
 use Rattle.scenes.specs.Leaving.{stood_of}
 use Rattle.scenes.specs.Scene.{Scene, first_scene, problem_of}
-use Rattle.session_undo.specs.State.{State, first_state}
+use Rattle.session_undo.specs.State.{IsFirst, State}
 use Rattle.completeness.specs.Examples.{steep}
 use Rattle.completeness.specs.Bounds.{AreBounds}
 use Rattle.completeness.specs.Room.{HasRoomToLeave, HasRoomToProbe, HasRoomToStep, IsLarge, IsProbed}
@@ -103,15 +104,15 @@ pub record LargeBudgetsAreNeverSpent : Type 0 where
 
 -- a metric is accepted there, with the budget that is there, unless a cause is against it
 abbrev pub FirstMetricsAreAccepted : Type 0
-FirstMetricsAreAccepted = (name : List ℕ) (value : Fraction) (reply : Reply) (new : State)
-    → MeaningStep first_state (mean.Metric name value) reply new
-    → IsRefused first_state (mean.Metric name value) reply new ⊎ (reply ≡ Done)
+FirstMetricsAreAccepted = (first : State) → IsFirst first → (name : List ℕ) (value : Fraction) (reply : Reply)
+    (new : State) → MeaningStep first (mean.Metric name value) reply new
+    → IsRefused first (mean.Metric name value) reply new ⊎ (reply ≡ Done)
 
 -- ---- room, where there is some and where there is none
 
 -- at each corner of the first scene's problem each quantity fits
 abbrev pub FirstSceneFits : Type 0
-FirstSceneFits = AllFit (problem_of first_scene) first_scene.rows
+FirstSceneFits = (corner : List Mark) → AllFit (problem_of (first_scene corner)) (first_scene corner).rows
 
 -- where the height is 2^30 times a width that was 4096 before, some quantity doesn't fit at some corner
 abbrev pub SteepDoesNotFit : Type 0

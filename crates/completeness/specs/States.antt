@@ -32,6 +32,7 @@ state_of held rows value = record {
     rows = rows;
     stays = record { attr = 1; target = value } ∷ [];
     values = (1, value) ∷ [];
+    corner = [];
   };
   earlier = [];
   budget = FIRST_BUDGET;
@@ -100,6 +101,7 @@ bounded_state = record {
     stays = zero_stay 1 ∷ zero_stay 2
         ∷ record { attr = window_width; target = record { num = pos 1; den = 1 } } ∷ zero_stay 4 ∷ [];
     values = window_values (record { num = pos 1; den = 1 }) zero_fraction;
+    corner = [];
   };
   earlier = [];
   budget = 2000000;

@@ -45,14 +45,14 @@ pub enum Item {
 }
 
 /// The constants of the window's rows.
-#[derive(Clone, Copy, Debug, PartialEq, Eq)]
+#[derive(Clone, Copy)]
 pub struct WindowSize {
     pub width: Frac,
     pub height: Frac,
 }
 
 /// The window's size as it is held, with the number of the first of its two rows.
-#[derive(Clone, Copy, Debug, PartialEq, Eq)]
+#[derive(Clone, Copy)]
 pub struct HeldSize {
     pub first_row: u32,
     pub size: WindowSize,

@@ -6,7 +6,7 @@ use Rattle.span_text.specs.Language.{LeavesAt}
 use Rattle.name_tables.specs.declared.stops.LimitWord.TheVariants as word
 use Rattle.script_text.specs.Grammar.{Line, all_words}
 use Rattle.script_text.specs.Meaning.{Meaning}
-use Rattle.session_undo.specs.State.{State, first_state}
+use Rattle.session_undo.specs.State.{State, IsFirst}
 use Rattle.session_undo.specs.Replies.{Reply, Outside, Limit, is_accepted}
 use Rattle.session_undo.specs.Machine.{Unless, Keeps, MeaningStep}
 use Rattle.reply_texts.specs.Replies.{text_of}
@@ -33,7 +33,12 @@ Run old (line ∷ more) text good new = (reply : Reply) × (mid : State) × (res
     × Step old line reply mid × (text ≡ text_of mid.scene reply ++ rest)
     × (good ≡ (is_accepted reply && rest_good)) × Run mid more rest rest_good new
 
--- The text is a run of the lines of the script, from the first session.
-pub record IsRunOf (script text : List ℕ) (good : Bool) : Type 0 where
-  pub last : State
-  pub run : Run first_state (lines script) text good last
+-- A run of the lines from a new session; of no line there is nothing. The text decides the last session but for
+-- the corner that is kept.
+abbrev pub NewRun : List (List ℕ) → List ℕ → Bool → Type 0
+NewRun [] text good = (text ≡ []) × (good ≡ true)
+NewRun (line ∷ more) text good = (first last : State) × IsFirst first × Run first (line ∷ more) text good last
+
+-- The text is a run of the lines of the script.
+abbrev pub IsRunOf : List ℕ → List ℕ → Bool → Type 0
+IsRunOf script text good = NewRun (lines script) text good

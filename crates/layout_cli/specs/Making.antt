@@ -4,7 +4,7 @@ use Rattle.std.specs.Str.Lines.{lines}
 use Rattle.span_text.specs.Bytes.{newline}
 use Rattle.make_script.specs.Script.{script}
 use Rattle.scenes.specs.Scene.{Scene}
-use Rattle.session_undo.specs.State.{State, first_state}
+use Rattle.session_undo.specs.State.{State, IsFirst}
 use Rattle.session_undo.specs.Replies.{Reply, is_accepted}
 use Rattle.layout_cli.specs.Machine.{Step}
 use Rattle.reply_texts.specs.Printing.{line_at}
@@ -29,10 +29,18 @@ summary_line lines refused rows = codes "made lines " ++ (decimal lines ++ (code
 abbrev pub last_line : Scene → List ℕ
 last_line scene = line_at scene (length scene.tree.views - 1)
 
--- The text sums up a run of the script that is drawn from the seed for so many views, and shows the last
--- view's frame at its end; it is good where no line was refused.
+-- the text sums up so many lines, how many of them were refused, and the last session, with its last view's
+-- frame; it is good where no line was refused
+abbrev pub SumsUp : List (List ℕ) → ℕ → State → List ℕ → Bool → Type 0
+SumsUp all refused last text good =
+    (text ≡ summary_line (length all) refused (length last.scene.rows) ++ last_line last.scene)
+    × (good ≡ (refused == 0))
+
+-- the text sums up a run of the lines, from a new session
+abbrev pub IsSummedUp : List (List ℕ) → List ℕ → Bool → Type 0
+IsSummedUp all text good = (first : State) × (refused : ℕ) × (last : State) × IsFirst first
+    × Refuses first all refused last × SumsUp all refused last text good
+
+-- the text sums up a run of the script that is drawn from the seed for so many views
 abbrev pub IsMade : ℕ → ℕ → List ℕ → Bool → Type 0
-IsMade seed views text good = (refused : ℕ) × (last : State)
-    × Refuses first_state (lines (script seed views)) refused last
-    × (text ≡ summary_line (length (lines (script seed views))) refused (length last.scene.rows)
-    ++ last_line last.scene) × (good ≡ (refused == 0))
+IsMade seed views text good = IsSummedUp (lines (script seed views)) text good

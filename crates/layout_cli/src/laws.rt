@@ -1,5 +1,5 @@
 // The laws of runs, each the contract of a function that does nothing.
-ghost use Rattle.session_undo.specs.State.{first_state, IsBestState};
+ghost use Rattle.session_undo.specs.State.{IsBestState, IsFirst, State};
 ghost use Rattle.layout_cli.specs.Laws.{BestValuesAreUnique, CountedRunsAreRuns, RunsLeadToBestValues};
 
 /// A problem has at most one list of best values.
@@ -7,9 +7,9 @@ pub fn best_values_are_unique()
     ensures { BestValuesAreUnique }
 {}
 
-/// The values of the first scene are best.
+/// The values of a new session are best.
 pub fn first_values_are_best()
-    ensures { IsBestState first_state }
+    ensures { (first : State) → IsFirst first → IsBestState first }
 {}
 
 /// Over any lines, a run leads from best values to best values, in the scene and in all that are kept.

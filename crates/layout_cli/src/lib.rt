@@ -32,10 +32,10 @@ mod output;
 mod program;
 mod talk;
 
+pub use claim_check::CHECK_LIMIT;
 pub use laws::{
     best_values_are_unique, counted_runs_are_runs, first_values_are_best, runs_lead_to_best_values,
 };
-pub use claim_check::CHECK_LIMIT;
 pub use line_by_line::INPUT_LIMIT;
 pub use mode::constants_are_as_said;
 pub use program::{Status, run};

@@ -1,14 +1,14 @@
 // The script that is made, and what a run of it comes to.
-ghost use Rattle.std.specs.Prelude.{◌≡◌, ◌<◌, ◌≤◌, ◌++◌, IfOk, length, string_bytes};
+ghost use Rattle.std.specs.Prelude.{◌≡◌, ◌<◌, ◌≤◌, ◌++◌, ℕ, IfOk, length, string_bytes};
 ghost use Rattle.std.specs.Str.Lines.{lines as lines_in};
 ghost use Rattle.make_script.specs.Script.{script};
-ghost use Rattle.session_undo.specs.State.{first_state};
 ghost use Rattle.session_undo.specs.Replies as reply;
 ghost use Rattle.layout_cli.specs.Machine.{Step};
-ghost use Rattle.layout_cli.specs.Making.{IsMade, Refuses, last_line, refusal_count, summary_line};
+ghost use Rattle.layout_cli.specs.Making.{IsMade, IsSummedUp, Refuses, SumsUp};
+ghost use Rattle.layout_cli.specs.Making.{last_line, refusal_count, summary_line};
 
-use crate::output::Output;
 use crate::answers::step;
+use crate::output::Output;
 use frac_core::OutOfMemory;
 use make_script::make_script;
 use reply_texts::push_at;
@@ -16,10 +16,9 @@ use session_undo::{Refusal, Session};
 use span_text::lines;
 use std::alloc::Global;
 
-// What the lines of a script led to.
-#[derive(Drop)]
-struct Answered {
-    session: Session,
+// How many lines a script has, and how many of them were refused.
+#[derive(Clone, Copy)]
+struct Counts {
     lines: u64,
     refused: u64,
 }
@@ -49,20 +48,18 @@ fn count_refusal(alloc: Global, session: &mut Session, line: &[u8]) -> Result<u6
 }
 
 // Answers the lines of a script, and counts them and those that are refused.
-fn answer_lines(alloc: Global, script: &[u8]) -> Result<Answered, OutOfMemory>
+fn answer_lines(alloc: Global, session: &mut Session, script: &[u8]) -> Result<Counts, OutOfMemory>
     requires { length script.now < usize.MAX }
     ensures count { IfOk result (λ end. end.lines ≡ length (lines_in script.now)) }
-    ensures run { IfOk result (λ end. Refuses first_state (lines_in script.now) end.refused end.session) }
+    ensures run { IfOk result (λ end. Refuses session.old (lines_in script.now) end.refused session.new) }
 {
-    let mut session = Session::new(alloc)?;
     let mut count = 0;
     let mut refused = 0;
     for line in lines(script) {
         count += 1;
-        refused += count_refusal(alloc, &mut session, line.bytes)?;
+        refused += count_refusal(alloc, session, line.bytes)?;
     }
-    Ok(Answered {
-        session,
+    Ok(Counts {
         lines: count,
         refused,
     })
@@ -79,18 +76,41 @@ fn put_summary(text: &mut String, lines: u64, refused: u64, rows: u64) -> Result
 }
 
 // The two lines of what was answered.
-fn text_of(alloc: Global, end: &Answered) -> Result<Vec<u8>, OutOfMemory>
+fn text_of(alloc: Global, session: &Session, end: Counts) -> Result<Vec<u8>, OutOfMemory>
     ensures { IfOk result (λ text. text.items
-        ≡ summary_line end.now.lines end.now.refused (length end.now.session.scene.rows)
-        ++ last_line end.now.session.scene) }
+        ≡ summary_line end.lines end.refused (length session.now.scene.rows)
+        ++ last_line session.now.scene) }
 {
-    let rows = end.session.engine().rows().len() as u64;
+    let rows = session.engine().rows().len() as u64;
     let mut summary = String::new(alloc);
     put_summary(&mut summary, end.lines, end.refused, rows)?;
     let mut text = summary.as_bytes().to_vec(alloc)?;
-    let scene = end.session.state();
+    let scene = session.state();
     push_at(&mut text, scene, scene.tree().len().saturating_sub(1))?;
     Ok(text)
+}
+
+// What the answers of a session to the lines of a script come to.
+fn summed_up(alloc: Global, session: &mut Session, script: &[u8]) -> Result<Output, OutOfMemory>
+    requires { length script.now < usize.MAX }
+    ensures { IfOk result (λ output. (refused : ℕ)
+        × Refuses session.old (lines_in script.now) refused session.new
+        × SumsUp (lines_in script.now) refused session.new output.text.items output.is_good) }
+{
+    let end = answer_lines(alloc, session, script)?;
+    Ok(Output {
+        text: text_of(alloc, session, end)?,
+        is_good: end.refused == 0,
+    })
+}
+
+// What a run of the script comes to, from a new session.
+fn run_over(alloc: Global, script: &[u8]) -> Result<Output, OutOfMemory>
+    requires { length script.now < usize.MAX }
+    ensures { IfOk result (λ output. IsSummedUp (lines_in script.now) output.text.items output.is_good) }
+{
+    let mut session = Session::new(alloc)?;
+    summed_up(alloc, &mut session, script)
 }
 
 /// What a run of the script comes to that is drawn from a seed for a number of views: how many lines it has,
@@ -100,9 +120,5 @@ pub fn make_and_run(alloc: Global, seed: u64, views: u32) -> Result<Output, OutO
 {
     let mut script = Vec::new(alloc);
     make_script(seed, views, &mut script)?;
-    let end = answer_lines(alloc, &script)?;
-    Ok(Output {
-        text: text_of(alloc, &end)?,
-        is_good: end.refused == 0,
-    })
+    run_over(alloc, &script)
 }

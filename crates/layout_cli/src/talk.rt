@@ -1,9 +1,9 @@
 // A session that answers the lines of a script as a feed gives them.
-ghost use Rattle.std.specs.Prelude.{◌≡◌, IfOk};
+ghost use Rattle.std.specs.Prelude.{IfOk};
 ghost use Rattle.edge_io.specs.Outside.{LeadsOutside, counts};
 ghost use Rattle.line_by_line.specs.Ends.{IsScriptCounted, IsScriptEnd};
 ghost use Rattle.layout_cli.specs.Machine.{Answers, IsRunOf};
-ghost use Rattle.session_undo.specs.State.{first_state};
+ghost use Rattle.session_undo.specs.State.{IsFirst};
 
 use crate::answers::{answer, refuse_long};
 use edge_io::{Piece, Sink, Source};
@@ -20,9 +20,9 @@ pub(crate) struct Talk {
 }
 
 impl Talk {
-    /// The first session, with no line answered.
+    /// A new session, with no line answered.
     pub(crate) fn new(alloc: Global) -> Result<Self, OutOfMemory>
-        ensures { IfOk result (λ talk. talk.session ≡ first_state) }
+        ensures { IfOk result (λ talk. IsFirst talk.session) }
     {
         Ok(Talk {
             session: Session::new(alloc)?,

@@ -38,9 +38,9 @@ module _ (tree : ViewTree) (metrics : MetricList) (held : List Item) (next : ℕ
   pub found-scene : (r : Result Diagnosis Stopped) → IfOk r (λ d. AreFindings l.problem l.values (findings_of d)) → IfOk r (λ d. AreFindingsOf (scene_at tree metrics held next l) (findings_of d))
   found-scene r h = h
 
-  pub stop-scene : (budget : ℕ) (r : Result Diagnosis Stopped) → IsKeptLayout l → IfErr r (λ s. IsStopAt l budget s.attr s.stop) → IfErr r (λ s. IsProbedStop (scene_at tree metrics held next l) budget s.attr s.stop)
-  stop-scene budget r kept h = IfErr-weaker r (λ s. IsStopAt l budget s.attr s.stop) (λ s. IsProbedStop (scene_at tree metrics held next l) budget s.attr s.stop) (λ s is. (l, record { problem = refl; values = refl; reached = reached l kept }, is)) h
+  pub stop-scene : (budget : ℕ) (r : Result Diagnosis Stopped) → IfErr r (λ s. IsStopAt l budget s.attr s.stop) → IfErr r (λ s. IsProbedStop (scene_at tree metrics held next l) budget s.attr s.stop)
+  stop-scene budget r h = IfErr-weaker r (λ s. IsStopAt l budget s.attr s.stop) (λ s. IsProbedStop (scene_at tree metrics held next l) budget s.attr s.stop) (λ s is. (l, record { problem = refl; values = refl; corner = refl }, is)) h
 
   pub certificate-scene : (r : Result (List BestLevel) OutOfMemory) → IsKeptLayout l → IfOk r (IsOwnBest l.problem l.corner) → IfOk r (IsCertified l.problem l.values) → IfOk r (IsCertificateOf (scene_at tree metrics held next l))
-  certificate-scene (Ok levels) kept own certified = record { certified = certified; at = l.corner; reached = reached l kept; own = own }
+  certificate-scene (Ok levels) kept own certified = record { certified = certified; reached = reached l kept; own = own }
   certificate-scene (Err e) kept own certified = tt

@@ -8,13 +8,14 @@ use Rattle.problem_core.specs.Layout.{Problem, Assignment, IsProblem, lines}
 use Rattle.problem_core.proofs.Best.WindowRows.{first-IsBest}
 use Rattle.view_tree.specs.Views.{ViewTree, window}
 use Rattle.compile_parts.specs.Meaning.{MetricList}
+use Rattle.layout_solver.specs.Begins.{IsReached}
 use Rattle.layout_solver.specs.Layouts.{Layout, Solution, AreBest, solution_of, stays_at}
 use Rattle.held_items.specs.Items.{OfWindow}
 use Rattle.version_list.specs.Versions.{Versions}
 use Rattle.held_items.specs.declared.item.Item as declared
 use Rattle.held_items.specs.declared.item.Item.TheVariants as kind
 use Rattle.scenes.specs.declared.scene.past.Past.{Past}
-use Rattle.scenes.specs.Scene.{Scene, new_values, first_scene}
+use Rattle.scenes.specs.Scene.{IsFirstCorner, Scene, new_values, first_scene}
 use Rattle.held_items.specs.Attributes.{IsCounted}
 use Rattle.scenes.specs.Kept.{AreAlike, IsKept, IsKeptHistory, history_at, scene_at}
 use Rattle.held_items.specs.Kept.{IsItem, IsNamed}
@@ -49,10 +50,15 @@ first-IsProblem =
 first-values : (l : Layout) → l.problem ≡ first_problem → AreBest l.problem l.values → l.values ≡ new_values 0
 first-values l is best = best-unique first_problem first-IsProblem l.values (new_values 0) (subst (λ (p : Problem). AreBest p l.values) is best) first-AreBest
 
+pub first-corner : (l : Layout) → l.problem ≡ first_problem → AreBest l.problem l.values → IsReached l.problem l.corner l.values → IsFirstCorner l.corner
+first-corner l is best reached =
+    subst (λ (vs : List (ℕ × Fraction)). IsReached first_problem l.corner vs) (first-values l is best)
+    (subst (λ (p : Problem). IsReached p l.corner l.values) is reached)
+
 abbrev pub first_tree : ViewTree
 first_tree = record { views = window ∷ []; next = 1 }
 
-pub first-is : (t : ViewTree) (l : Layout) → t ≡ first_tree → l.problem ≡ first_problem → AreBest l.problem l.values → scene_at t [] (OfWindow ∷ []) 5 l ≡ first_scene
+pub first-is : (t : ViewTree) (l : Layout) → t ≡ first_tree → l.problem ≡ first_problem → AreBest l.problem l.values → scene_at t [] (OfWindow ∷ []) 5 l ≡ first_scene l.corner
 first-is t l t_is is best =
     ap (λ (u : ViewTree). scene_at u [] (OfWindow ∷ []) 5 l) t_is
     ∙ ap₂ (λ (p : Problem) (vs : List (ℕ × Fraction)). scene_at first_tree [] (OfWindow ∷ []) 5 (record l { problem = p; values = vs })) is (first-values l is best)
@@ -76,7 +82,7 @@ abbrev pub first_items : Versions declared.Item
 first_items = record { items = kind.OfWindow ∷ []; before = [] }
 
 pub first-history : (t : ViewTree) (ms : MetricList) (items : Versions declared.Item) (l : Layout) (pasts : List Past) → t ≡ first_tree → ms ≡ [] → items ≡ first_items → l.problem ≡ first_problem → AreBest l.problem l.values
-    → history_at t ms items 5 l pasts ≡ record { scene = first_scene; earlier = [] }
+    → history_at t ms items 5 l pasts ≡ record { scene = first_scene l.corner; earlier = [] }
 first-history t ms items l pasts t_is ms_is items_is is best =
     ap (λ (m : MetricList). history_at t m items 5 l pasts) ms_is
     ∙ ap (λ (v : Versions declared.Item). history_at t [] v 5 l pasts) items_is

@@ -19,7 +19,7 @@ use Rattle.held_items.proofs.Marks.{refused-items}
 -- ---- one solution, one scene
 
 pub same-scene : (tree : ViewTree) (metrics : MetricList) (held : List Item) (next : ℕ) (l m : Layout) → solution_of l ≡ solution_of m → scene_at tree metrics held next l ≡ scene_at tree metrics held next m
-same-scene tree metrics held next l m same = ap (λ (s : Solution). scene_of tree metrics held next s.problem s.values) same
+same-scene tree metrics held next l m same = ap (scene_of tree metrics held next) same
 
 -- ---- how many there are
 
@@ -62,7 +62,7 @@ earlier-take (suc n) tree metrics [] solutions pasts = refl
 earlier-take (suc n) tree metrics (items ∷ rest) [] pasts = refl
 earlier-take (suc n) tree metrics (items ∷ rest) (s ∷ solutions) [] = refl
 earlier-take (suc n) tree metrics (items ∷ rest) (s ∷ solutions) (p ∷ pasts) =
-    ap (λ (earlier : List Scene). scene_of (own_or p.tree tree) (own_or p.metrics metrics) (items_of items) p.next_row s.problem s.values ∷ earlier)
+    ap (λ (earlier : List Scene). scene_of (own_or p.tree tree) (own_or p.metrics metrics) (items_of items) p.next_row s ∷ earlier)
     (earlier-take n (own_or p.tree tree) (own_or p.metrics metrics) rest solutions pasts)
 
 -- `past` says what the scene of the other parts has otherwise than one of these views and metrics after it
@@ -71,9 +71,9 @@ module _ (tree tree' : ViewTree) (metrics metrics' : MetricList) (items : Versio
   before-is : earlier_at tree' metrics' (items.items ∷ items.before) (solution_of layout ∷ layout.earlier) (past ∷ pasts)
       ≡ scene_at tree metrics (items_of items.items) next layout ∷ earlier_at tree metrics items.before layout.earlier pasts
   before-is =
-      ap (λ (t : ViewTree). scene_of t (own_or past.metrics metrics') (items_of items.items) past.next_row layout.problem layout.values ∷ earlier_at t (own_or past.metrics metrics') items.before layout.earlier pasts) its_tree
-      ∙ ap (λ (m : MetricList). scene_of tree m (items_of items.items) past.next_row layout.problem layout.values ∷ earlier_at tree m items.before layout.earlier pasts) its_metrics
-      ∙ ap (λ (n : ℕ). scene_of tree metrics (items_of items.items) n layout.problem layout.values ∷ earlier_at tree metrics items.before layout.earlier pasts) its_next
+      ap (λ (t : ViewTree). scene_of t (own_or past.metrics metrics') (items_of items.items) past.next_row (solution_of layout) ∷ earlier_at t (own_or past.metrics metrics') items.before layout.earlier pasts) its_tree
+      ∙ ap (λ (m : MetricList). scene_of tree m (items_of items.items) past.next_row (solution_of layout) ∷ earlier_at tree m items.before layout.earlier pasts) its_metrics
+      ∙ ap (λ (n : ℕ). scene_of tree metrics (items_of items.items) n (solution_of layout) ∷ earlier_at tree metrics items.before layout.earlier pasts) its_next
 
   pub next-earlier : earlier_at tree' metrics' (take EARLIER (items.items ∷ items.before)) (take EARLIER (solution_of layout ∷ layout.earlier)) (take EARLIER (past ∷ pasts))
       ≡ with_earlier (scene_at tree metrics (items_of items.items) next layout) (earlier_at tree metrics items.before layout.earlier pasts)

@@ -13,11 +13,11 @@ use Rattle.constraint_compile.specs.Compiled.{AreRowsNow, CompiledLine}
 use Rattle.compile_parts.specs.Meaning.{MetricList}
 use Rattle.constraint_compile.specs.Suggestions.{suggested_row}
 use Rattle.constraint_compile.specs.declared.suggestion.Suggestion.{Suggestion}
-use Rattle.layout_solver.specs.Begins.{IsRunFrom, IsStopFrom}
+use Rattle.layout_solver.specs.Begins.{IsStopFrom}
 use Rattle.layout_solver.specs.Layouts.{Layout, AreBest, IsKeptLayout, stays_at, with_added, zeros}
 use Rattle.held_items.specs.declared.limits.TheConstants.{MOST_ROWS}
 use Rattle.scenes.specs.Drafts.{IsNextSuggestion}
-use Rattle.scenes.specs.Steps.{RunStopsAt, from_corner}
+use Rattle.scenes.specs.Steps.{LeadsTo, RunStopsAt, from_corner}
 use Rattle.held_items.specs.Attributes.{IsNextLine, all_attributes}
 use Rattle.held_items.specs.Items.{AreRows, Item, OfLine, Sized, Suggested, has_size, size_rows}
 use Rattle.held_items.specs.Kept.{IsItem, IsNamed}
@@ -51,7 +51,7 @@ module _ (tree : ViewTree) (ms : MetricList) (held : List Item) (next : ℕ) (l 
       (kept-start tree ms held next l kept sound (l.problem.rows ++ more) more refl) stops
 
   pub item-solved : (items : List Item) (new : Layout) (budget : ℕ) → new.problem ≡ with_added l [] more → AreBest new.problem new.values
-      → (path : Path) × IsRunFrom (from_corner l more) new.problem budget path new.values → items ≡ held ++ item ∷ []
+      → LeadsTo (from_corner l more) new budget → items ≡ held ++ item ∷ []
       → (path : Path) × IsSolved (scene_at tree ms held next l) (with_item (scene_at tree ms held next l) item (length more)) budget path (scene_at tree ms items (next + length more) new)
   item-solved items new budget done best runs items_is =
       solved-at (scene_at tree ms held next l) (with_item (scene_at tree ms held next l) item (length more)) items (next + length more) new (from_corner l more) budget items_is refl

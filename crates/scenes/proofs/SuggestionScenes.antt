@@ -11,14 +11,14 @@ use Rattle.constraint_compile.specs.Suggestions.{IsSuggestion}
 use Rattle.constraint_compile.specs.declared.suggestion.Suggestion.{Suggestion}
 use Rattle.cert_core.specs.Paths.{Path}
 use Rattle.cert_core.specs.declared.stops.RunStop.{RunStop}
-use Rattle.layout_solver.specs.Begins.{IsRunFrom, IsStopFrom}
+use Rattle.layout_solver.specs.Begins.{IsStopFrom}
 use Rattle.layout_solver.specs.Layouts.{Layout, AreBest, IsKeptLayout, stays_at}
 use Rattle.layout_solver.specs.Shifts.{shifted, with_shifts}
 use Rattle.held_items.specs.Items.{Item, AreRows, suggestion_of, suggested_again}
 use Rattle.scenes.specs.Scene.{Scene, with_suggested}
 use Rattle.scenes.specs.Steps.{IsProblemOf, IsSolved}
 use Rattle.scenes.specs.Drafts.{IsNextSuggestion}
-use Rattle.scenes.specs.Steps.{RunStopsAt, from_shifts}
+use Rattle.scenes.specs.Steps.{LeadsTo, RunStopsAt, from_shifts}
 use Rattle.held_items.specs.Attributes.{IsCounted}
 use Rattle.scenes.specs.Kept.{IsKept, scene_at}
 use Rattle.scenes.proofs.Engines.Solved.{solved-at, is, shift-start, moves, shift-stops}
@@ -47,7 +47,7 @@ module _ (tree : ViewTree) (ms : MetricList) (held : List Item) (next : ℕ) (l 
   before = scene_at tree ms held next l
 
   abbrev RunShifts : Layout → ℕ → Type 0
-  RunShifts new budget = (path : Path) × IsRunFrom (from_shifts l) new.problem budget path new.values
+  RunShifts new budget = LeadsTo (from_shifts l) new budget
 
   abbrev Solved : Scene → ℕ → Scene → Type 0
   Solved draft budget new = (path : Path) × IsSolved (scene_at tree ms held next l) draft budget path new

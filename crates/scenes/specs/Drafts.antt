@@ -1,7 +1,9 @@
 -- The drafts of a scene, and what a step of it to one of them comes to.
-use Rattle.std.specs.Prelude.{ℕ, List, length, IfOk, IfErr, ◌≡◌, ◌+◌, ◌*◌, ◌++◌, Some}
+use Rattle.std.specs.Prelude.{ℕ, List, length, IfOk, IfErr, ◌≡◌, ◌≤◌, ◌+◌, ◌*◌, ◌++◌, All, Some, false}
 use Rattle.std.specs.declared.result.Result.{Result}
+use Rattle.problem_core.specs.Kept.{IsRow}
 use Rattle.problem_core.specs.Layout.{Row}
+use Rattle.problem_core.specs.declared.limits.TheConstants.{NUMBER_LIMIT}
 use Rattle.cert_core.specs.declared.stops.RunStop.{RunStop}
 use Rattle.layout_solver.specs.declared.removing.RemoveStop.{RemoveStop}
 use Rattle.constraint_compile.specs.declared.suggestion.Suggestion.{Suggestion}
@@ -9,15 +11,22 @@ use Rattle.held_items.specs.declared.item.WindowSize.{WindowSize}
 use Rattle.held_items.specs.declared.item.coming.NewViews.{NewViews}
 use Rattle.held_items.specs.declared.item.leaving.Leaver.{Leaver}
 use Rattle.scenes.specs.Steps.{LeaveStopsAt, RunStopsAt, HasLeft, HasSolved}
-use Rattle.held_items.specs.Attributes.{IsGrown}
+use Rattle.held_items.specs.Attributes.{IsGrown, IsNextLine}
+use Rattle.held_items.specs.declared.item.suggesting.NewSuggestion.TheVariants as made
+use Rattle.held_items.specs.declared.limits.TheConstants.{MOST_ROWS}
+use Rattle.constraint_compile.specs.Compiled.{AreRowsNow, CompiledLine}
 use Rattle.held_items.specs.Kept.{is_leaving, item_of}
 use Rattle.scenes.specs.Leaving.{without_items}
-use Rattle.scenes.specs.Scene.{History, Scene, with_item, with_suggested, with_window, moved, new_stays_from}
+use Rattle.scenes.specs.Moving.{AreChangesFor}
+use Rattle.scenes.specs.Scene.{History, Scene, with_item, with_line, with_suggested, with_suggestion, with_window}
+use Rattle.scenes.specs.Scene.{moved, new_stays_from}
+use Rattle.scenes.specs.declared.scene.updates.Update.{Update}
+use Rattle.scenes.specs.declared.scene.updates.Update.TheVariants as update
 use Rattle.view_tree.specs.Views.{ViewTree, LiveView, view_named}
 use Rattle.compile_parts.specs.Meaning.{MetricList, IsRowRank}
-use Rattle.held_items.specs.declared.row_numbers.TheConstants.{VIEW_ROWS}
-use Rattle.held_items.specs.Items.{suggestion_of, view_items}
-use Rattle.held_items.specs.Moving.{FitsAfter}
+use Rattle.held_items.specs.declared.row_numbers.TheConstants.{SIZE_ROWS, VIEW_ROWS}
+use Rattle.held_items.specs.Items.{has_size, suggestion_of, view_items}
+use Rattle.held_items.specs.Moving.{FitsAfter, IsFarSize}
 use Rattle.held_items.specs.declared.item.Item as declared
 
 -- ---- drafts
@@ -76,6 +85,41 @@ pub record IsNearSuggestion (scene : Scene) (s : Suggestion) : Type 0 where
   pub found : suggestion_of s.view s.word scene.held ≡ Some before
   pub row : s.row ≡ before.row
   pub near : FitsAfter before.constant s.constant
+
+-- ---- updates
+
+-- there is room for so many rows more, and their numbers fit
+pub record HasRoomFor (scene : Scene) (count : ℕ) : Type 0 where
+  pub rows : length scene.rows + count ≤ MOST_ROWS
+  pub numbers : scene.next_row + count ≤ NUMBER_LIMIT
+
+-- these are the rows of the line, whose name isn't asked, and there is room for them
+pub record MayHaveLine (scene : Scene) (line : CompiledLine) (rows : List Row) : Type 0 where
+  pub are_rows : AreRowsNow scene.metrics line.rows rows
+  pub each : All IsRow rows
+  pub next : IsNextLine scene.tree.views scene.next_row line
+  pub room : HasRoomFor scene (length rows)
+
+-- the window may have this size: where it has none there is room for its rows, and else it isn't too far
+pub record MayHaveSize (scene : Scene) (size : WindowSize) : Type 0 where
+  pub room : has_size scene.held ≡ false → HasRoomFor scene SIZE_ROWS
+  pub near : IsFarSize scene.held size.width size.height → ⊥
+
+-- with an update
+abbrev pub updated : Scene → Update → Scene
+updated old (update.Metrics new) = metrics_draft old new.metrics
+updated old (update.Size size) = window_draft old size
+updated old (update.Line new) = with_line old new.group new.line
+updated old (update.Suggestion (made.First s)) = with_suggestion old s
+updated old (update.Suggestion (made.Again s)) = again_draft old s
+
+-- the scene may be so updated
+abbrev pub MayUpdate : Scene → Update → Type 0
+MayUpdate old (update.Metrics new) = AreChangesFor old new.metrics new.to.items
+MayUpdate old (update.Size size) = MayHaveSize old size
+MayUpdate old (update.Line new) = MayHaveLine old new.line new.rows.items
+MayUpdate old (update.Suggestion (made.First s)) = IsNextSuggestion old s × HasRoomFor old 1
+MayUpdate old (update.Suggestion (made.Again s)) = IsNearSuggestion old s
 
 -- ---- steps
 

@@ -5,7 +5,7 @@ use Rattle.view_tree.specs.Views.{ViewTree}
 use Rattle.problem_core.specs.Layout.{Problem, Row}
 use Rattle.frac_core.specs.Fraction.{Fraction}
 use Rattle.version_list.specs.Versions.{Versions}
-use Rattle.layout_solver.specs.Layouts.{Layout, Solution}
+use Rattle.layout_solver.specs.Layouts.{Layout, Solution, solution_of}
 use Rattle.scenes.specs.declared.scene.past.Past.{Past}
 use Rattle.held_items.specs.Items.{Item, AreItemRows, AreRows}
 use Rattle.scenes.specs.Scene.{History, Scene, problem_of}
@@ -15,22 +15,27 @@ use Rattle.problem_core.specs.declared.limits.TheConstants.{NUMBER_LIMIT}
 use Rattle.held_items.specs.Kept.{items_of, IsItem, IsNamed}
 use Rattle.held_items.specs.declared.item.Item as declared
 
+-- the layout of no attribute
+abbrev pub no_layout : Layout
+no_layout = record { problem = record { rows = []; stays = [] }; values = []; corner = []; earlier = [] }
+
 -- the scene of these parts
-abbrev pub scene_of : ViewTree → MetricList → List Item → ℕ → Problem → List (ℕ × Fraction) → Scene
-scene_of tree metrics held next_row problem values = record {
+abbrev pub scene_of : ViewTree → MetricList → List Item → ℕ → Solution → Scene
+scene_of tree metrics held next_row s = record {
   tree = tree;
   metrics = metrics;
   held = held;
   next_row = next_row;
-  rows = problem.rows;
-  stays = problem.stays;
-  values = values;
+  rows = s.problem.rows;
+  stays = s.problem.stays;
+  values = s.values;
+  corner = s.corner;
 }
 
--- the same, with the problem and the values of a layout
+-- the same, with the solution of a layout
 abbrev pub scene_at : ViewTree → MetricList → List Item → ℕ → Layout → Scene
 scene_at tree metrics held next_row layout =
-    scene_of tree metrics held next_row layout.problem layout.values
+    scene_of tree metrics held next_row (solution_of layout)
 
 -- what an earlier scene has, if it isn't what the scene after it has
 abbrev pub own_or : {A : Type 0} → Option A → A → A
@@ -44,7 +49,7 @@ earlier_at tree metrics [] solutions pasts = []
 earlier_at tree metrics (items ∷ rest) [] pasts = []
 earlier_at tree metrics (items ∷ rest) (s ∷ solutions) [] = []
 earlier_at tree metrics (items ∷ rest) (s ∷ solutions) (p ∷ pasts) =
-    scene_of (own_or p.tree tree) (own_or p.metrics metrics) (items_of items) p.next_row s.problem s.values
+    scene_of (own_or p.tree tree) (own_or p.metrics metrics) (items_of items) p.next_row s
     ∷ earlier_at (own_or p.tree tree) (own_or p.metrics metrics) rest solutions pasts
 
 -- the scene of these parts, with those before it

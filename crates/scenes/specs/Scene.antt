@@ -3,6 +3,7 @@ use Rattle.std.specs.Prelude.{◌≡◌, ℕ, ◌+◌, ◌*◌, Bool, true, fals
 use Rattle.std.specs.Prelude.{is_some, map}
 use Rattle.frac_core.specs.Fraction.{Fraction}
 use Rattle.name_tables.specs.Names.{names_of, place_of, with_value}
+use Rattle.problem_core.specs.declared.parts.Mark.{Mark}
 use Rattle.problem_core.specs.declared.parts.Stay.{Stay}
 use Rattle.problem_core.specs.Gaps.{value_of}
 use Rattle.problem_core.specs.Layout.{Row, Problem}
@@ -12,6 +13,7 @@ use Rattle.view_tree.specs.Views.{ViewTree, window}
 use Rattle.view_tree.specs.JsonTrees.{Branch, size}
 use Rattle.compile_parts.specs.Meaning.{MetricList}
 use Rattle.constraint_compile.specs.Compiled.{CompiledLine}
+use Rattle.layout_solver.specs.Begins.{IsReached}
 use Rattle.layout_solver.specs.Layouts.{AreBest, stays_at, zeros}
 use Rattle.script_text.specs.declared.words.AttrWord.{AttrWord}
 use Rattle.constraint_compile.specs.declared.suggestion.Suggestion.{Suggestion}
@@ -24,7 +26,8 @@ use Rattle.view_tree.specs.Views as tree
 use Rattle.view_tree.specs.JsonTrees as branches
 
 -- the views, the metrics in order of definition, what is held in order of acceptance, the number that the
--- next row takes, the rows by rising number, the stays, and the values by their attributes' numbers
+-- next row takes, the rows by rising number, the stays, the values by their attributes' numbers, and the marks
+-- inside at the corner that is kept for them
 pub record Scene : Type 0 where
   pub tree : ViewTree
   pub metrics : MetricList
@@ -33,6 +36,7 @@ pub record Scene : Type 0 where
   pub rows : List Row
   pub stays : List Stay
   pub values : List (ℕ × Fraction)
+  pub corner : List Mark
 
 -- a scene, and those before it, the latest first
 pub record History : Type 0 where
@@ -71,8 +75,8 @@ new_stays id = stays_at (new_values id)
 abbrev pub new_stays_from : ℕ → ℕ → List Stay
 new_stays_from id count = stays_at (zeros (attributes_from id count))
 
--- In each draft that follows the stays have moved to the values before. Its rows and values are still those
--- before.
+-- In each draft that follows the stays have moved to the values before. Its rows, values and corner are still
+-- those before.
 
 -- with a view more, whose two rows have the next numbers
 abbrev pub with_view : Scene → List ℕ → ℕ → Scene
@@ -152,12 +156,13 @@ AreDraftRows draft rows = AreRows draft.metrics draft.held rows
 abbrev pub draft_problem : Scene → List Row → Problem
 draft_problem draft rows = record { rows = rows; stays = draft.stays }
 
--- all but the rows and the values is as drafted, the rows are those of what is held, and the values are the
--- best
+-- all but the rows, the values and the corner is as drafted, the rows are those of what is held, the values are
+-- the best, and stand at the corner, which is an end
 pub record Becomes (draft new : Scene) : Type 0 where
-  pub same : new ≡ record draft { rows = new.rows; values = new.values }
+  pub same : new ≡ record draft { rows = new.rows; values = new.values; corner = new.corner }
   pub rows : AreDraftRows draft new.rows
   pub best : AreBest (problem_of new) new.values
+  pub reached : IsReached (problem_of new) new.corner new.values
 
 -- the values are the best for the rows and stays
 abbrev pub IsBestScene : Scene → Type 0
@@ -165,9 +170,9 @@ IsBestScene scene = AreBest (problem_of scene) scene.values
 
 -- ---- the first scene
 
--- the window alone, with its four rows, no size, and every value 0
-abbrev pub first_scene : Scene
-first_scene = record {
+-- the window alone, with its four rows, no size, and every value 0, where the marks inside are these
+abbrev pub first_scene : List Mark → Scene
+first_scene corner = record {
   tree = record { views = window ∷ []; next = 1 };
   metrics = [];
   held = OfWindow ∷ [];
@@ -175,4 +180,9 @@ first_scene = record {
   rows = structural_rows;
   stays = new_stays 0;
   values = new_values 0;
+  corner = corner;
 }
+
+-- these are the marks of a corner of its problem that is an end, at which its values stand
+abbrev pub IsFirstCorner : List Mark → Type 0
+IsFirstCorner corner = IsReached (problem_of (first_scene corner)) corner (new_values 0)

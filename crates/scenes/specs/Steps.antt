@@ -3,10 +3,9 @@ use Rattle.std.specs.Prelude.{◌≡◌, ℕ, ◌+◌, ◌<◌, ◌⊎◌, List,
 use Rattle.problem_core.specs.Layout.{Row, Problem}
 use Rattle.cert_core.specs.Paths.{Path}
 use Rattle.cert_core.specs.declared.stops.RunStop.{RunStop}
-use Rattle.problem_core.specs.declared.parts.Mark.{Mark}
 use Rattle.layout_solver.specs.Removals.{CanLeave, HasRemoved, IsRemoveStop, Leaving, without, stood}
 use Rattle.layout_solver.specs.declared.removing.RemoveStop.{RemoveStop}
-use Rattle.layout_solver.specs.Begins.{Start, IsReached, IsRunFrom, IsStopFrom}
+use Rattle.layout_solver.specs.Begins.{Start, IsReached, IsRunTo, IsStopFrom}
 use Rattle.problem_core.specs.Unfit.{without_constant}
 use Rattle.scenes.specs.Scene.{Scene, problem_of, draft_problem, AreDraftRows, Becomes}
 use Rattle.scenes.specs.Leaving.{stood_of}
@@ -27,19 +26,19 @@ pub record IsShifting (rows : List Row) (s : Start) : Type 0 where
   pub none : s.joining ≡ []
   pub alike : map without_constant rows ≡ map without_constant s.before
 
--- where the path from a scene to a draft begins, of which these are the rows: at a corner that was kept for
--- the scene's values, with the scene's rows
+-- where the path from a scene to a draft begins, of which these are the rows: at the corner that is kept for
+-- the scene, with the scene's rows
 pub record IsStart (scene : Scene) (rows : List Row) (s : Start) : Type 0 where
   pub before : s.before ≡ scene.rows
-  pub kept : IsReached (problem_of scene) s.kept scene.values
+  pub kept : s.kept ≡ scene.corner
   pub way : IsJoining rows s ⊎ IsShifting rows s
 
--- the new scene is this draft with its rows and the best values, to which a path within the budget leads
+-- the new scene is this draft with its rows and the best values, to whose corner a path within the budget leads
 pub record IsSolved (scene draft : Scene) (budget : ℕ) (path : Path) (new : Scene) : Type 0 where
   pub becomes : Becomes draft new
   pub start : Start
   pub begins : IsStart scene new.rows start
-  pub run : IsRunFrom start (problem_of new) budget path new.values
+  pub run : IsRunTo start (problem_of new) budget new.corner path
 
 -- some path leads to it
 abbrev pub HasSolved : Scene → Scene → ℕ → Scene → Type 0
@@ -55,33 +54,27 @@ pub record IsStopped (scene draft : Scene) (budget : ℕ) (stop : RunStop) : Typ
 
 -- ---- leaving
 
--- these leave the scene's problem for that of the draft, of which these are the rows; the marks are a corner
--- that was kept for the scene's values
-pub record IsLeaving (scene draft : Scene) (rows : List Row) (kept : List Mark) (l : Leaving) : Type 0 where
-  pub reached : IsReached (problem_of scene) kept scene.values
+-- these leave the scene's problem for that of the draft, of which these are the rows
+pub record IsLeaving (scene draft : Scene) (rows : List Row) (l : Leaving) : Type 0 where
   pub can : CanLeave l (stood_of scene)
   pub rising : AllPairs (λ a b. a < b) l.rows
   pub left : draft_problem draft rows ≡ without l (stood_of scene)
 
--- the new scene is this draft with its rows and the best values, to which a path within the budget leads from
--- where the rows have left
+-- the new scene is this draft with its rows and the best values, to whose corner a path within the budget leads
+-- from where the rows have left the corner that is kept for the scene
 pub record HasLeft (scene draft : Scene) (budget : ℕ) (new : Scene) : Type 0 where
   pub becomes : Becomes draft new
-  pub kept : List Mark
   pub leaving : Leaving
-  pub leaves : IsLeaving scene draft new.rows kept leaving
-  pub last : List Mark
-  pub run : HasRemoved (stood_of scene) kept leaving budget last
-  pub reached : IsReached (problem_of new) last new.values
+  pub leaves : IsLeaving scene draft new.rows leaving
+  pub run : HasRemoved (stood_of scene) scene.corner leaving budget new.corner
 
 -- the removal stops so
 pub record CannotLeave (scene draft : Scene) (budget : ℕ) (stop : RemoveStop) : Type 0 where
   pub rows : List Row
   pub are : AreDraftRows draft rows
-  pub kept : List Mark
   pub leaving : Leaving
-  pub leaves : IsLeaving scene draft rows kept leaving
-  pub stops : IsRemoveStop (stood_of scene) kept leaving budget stop
+  pub leaves : IsLeaving scene draft rows leaving
+  pub stops : IsRemoveStop (stood_of scene) scene.corner leaving budget stop
 
 -- ---- what a command would solve
 
@@ -91,11 +84,16 @@ IsProblemOf draft p = AreDraftRows draft p.rows × (p.stays ≡ draft.stays)
 
 -- ---- stops
 
--- these have left the problem, and a run within the budget has led to the values
+-- these have left the problem, and a run within the budget has led to the new corner, at which the values stand
 pub record HasRun (old new : Layout) (l : Leaving) (budget : ℕ) : Type 0 where
-  pub last : List Mark
-  pub run : HasRemoved (stood old) old.corner l budget last
-  pub reached : IsReached new.problem last new.values
+  pub run : HasRemoved (stood old) old.corner l budget new.corner
+  pub reached : IsReached new.problem new.corner new.values
+
+-- a run within the budget has led from there to the new corner, at which the values stand
+pub record LeadsTo (s : Start) (new : Layout) (budget : ℕ) : Type 0 where
+  pub path : Path
+  pub run : IsRunTo s new.problem budget new.corner path
+  pub reached : IsReached new.problem new.corner new.values
 
 -- why the scene can't become the draft, where memory may be wanting
 abbrev pub LeaveStopsAt : Scene → Scene → ℕ → RemoveStop → Type 0

@@ -23,7 +23,8 @@
 //!
 //! In reading order: `limits`; `scene` is what the held items (`held_items`) come to, with `past` (earlier scenes),
 //! `frames`, `values`, `drafts` (problems that no engine has taken), `problems` (those of a scene's changes),
-//! `solving` (the engine's changes) and `steps` (the scene's).
+//! `solving` (the engine's changes), `steps` (the scene's) and `updates`, those in which no view comes and
+//! nothing leaves.
 #![tactic(auto)]
 
 mod limits;
@@ -31,4 +32,5 @@ mod scene;
 
 pub use limits::FIRST_BUDGET;
 pub use scene::Scene;
+pub use scene::updates::{NewLine, NewMetrics, Update};
 pub use scene::values::values_of;

@@ -5,16 +5,20 @@ pub(crate) mod past;
 mod problems;
 pub(crate) mod solving;
 mod steps;
+pub(crate) mod updates;
 pub(crate) mod values;
 
 ghost use Rattle.std.specs.Prelude.{◌≡◌, ◌<◌, ◌≤◌, ◌∷◌, [], true, false, length};
 ghost use Rattle.std.specs.Prelude.{None, slice_get, IfOk, IfErr, IfSome, IfNone};
 ghost use Rattle.std.specs.List.{list_any};
+ghost use Rattle.std.specs.Prelude.{All};
+ghost use Rattle.problem_core.specs.Kept.{IsRow};
 ghost use Rattle.problem_core.specs.Window.{structural_rows};
 ghost use Rattle.layout_solver.specs.Layouts.{AreBest};
 ghost use Rattle.held_items.specs.declared.item.Item.TheVariants as kind;
 ghost use Rattle.scenes.specs.Kept.{own_or};
 ghost use Rattle.scenes.specs.Scene.{new_stays};
+ghost use Rattle.scenes.specs.Kept.{no_layout};
 
 use crate::limits::FIRST_BUDGET;
 use crate::scene::frames::{frame_of, place_of};
@@ -29,6 +33,7 @@ use held_items::{
 };
 use layout_solver::Engine;
 use name_tables::Metrics;
+use problem_core::Row;
 use script_text::AttrWord;
 use std::alloc::Global;
 use std::collections::VecDeque;
@@ -76,6 +81,23 @@ fn first_items(alloc: Global) -> Result<VersionList<Item>, OutOfMemory>
     Ok(items)
 }
 
+// Gives an engine without rows those of the window, with no layout before.
+fn begin(engine: &mut Engine, rows: &[Row]) -> Result<(), OutOfMemory>
+    requires new { engine.old ≡ no_layout }
+    requires rows { rows.now ≡ structural_rows }
+    requires each { All IsRow rows.now }
+    ensures problem { IfOk result
+        (λ _. engine.new.problem ≡ record { rows = structural_rows; stays = new_stays 0 }) }
+    ensures earlier { IfOk result (λ _. engine.new.earlier ≡ []) }
+{
+    // This run needs few exchanges, and all numbers fit, so it is memory that is wanting.
+    let Ok(()) = engine.add(&view_attributes(0), rows, FIRST_BUDGET) else {
+        return Err(OutOfMemory);
+    };
+    engine.forget();
+    Ok(())
+}
+
 // The engine of the window's rows, with no layout before.
 fn first_engine(alloc: Global) -> Result<Engine, OutOfMemory>
     ensures problem { IfOk result
@@ -83,13 +105,9 @@ fn first_engine(alloc: Global) -> Result<Engine, OutOfMemory>
     ensures best { IfOk result (λ engine. AreBest engine.problem engine.values) }
     ensures earlier { IfOk result (λ engine. engine.earlier ≡ []) }
 {
-    let mut engine = Engine::new(alloc)?;
     let rows = structural_rows(alloc)?;
-    // This run needs few exchanges, and all numbers fit, so it is memory that is wanting.
-    let Ok(()) = engine.add(&view_attributes(0), &rows, FIRST_BUDGET) else {
-        return Err(OutOfMemory);
-    };
-    engine.forget();
+    let mut engine = Engine::new(alloc)?;
+    begin(&mut engine, &rows)?;
     engine.show_layout(); // for the proof: what an engine keeps
     Ok(engine)
 }
@@ -111,17 +129,29 @@ impl Scene {
     ghost use Rattle.held_items.specs.Items.{has_size, line_count, suggestion_of};
     ghost use Rattle.held_items.specs.Leaving.{is_in_group};
     ghost use Rattle.held_items.specs.Moving.{IsFarSize};
-    ghost use Rattle.scenes.specs.Scene.{first_scene};
+    ghost use Rattle.scenes.specs.Scene.{IsFirstCorner, first_scene};
+    ghost use Rattle.std.specs.VecDeque.{deque_capacity};
+    ghost use Rattle.held_items.specs.declared.limits.TheConstants.{EARLIER};
 
-    /// The window alone.
-    pub fn new(alloc: Global) -> Result<Scene, OutOfMemory>
-        ensures { IfOk result (λ scene. scene ≡ record { scene = first_scene; earlier = [] }) }
+    // The window alone, of what is made for it but the engine.
+    fn with_parts(
+        alloc: Global,
+        tree: Tree,
+        metrics: Metrics,
+        items: VersionList<Item>,
+        pasts: VecDeque<Past>,
+    ) -> Result<Scene, OutOfMemory>
+        requires tree { tree ≡ (first_scene []).tree }
+        requires metrics { metrics ≡ [] }
+        requires items { items ≡ record { items = kind.OfWindow ∷ []; before = [] } }
+        requires none { pasts.items ≡ [] }
+        requires room { EARLIER < deque_capacity pasts }
+        ensures corner { IfOk result (λ history. IsFirstCorner history.scene.corner) }
+        ensures first { IfOk result (λ history.
+            history ≡ record { scene = first_scene history.scene.corner; earlier = [] }) }
     {
-        let items = first_items(alloc)?;
         let engine = first_engine(alloc)?;
-        let pasts = VecDeque::with_capacity(alloc, EARLIER + 1)?;
-        let tree = Tree::new(alloc)?;
-        let metrics = Metrics::new(alloc)?;
+        engine.show_layout(); // for the proof: what an engine keeps
         Ok(Scene {
             tree,
             metrics,
@@ -131,6 +161,30 @@ impl Scene {
             pasts,
             alloc,
         })
+    }
+
+    // The window alone, of its views and metrics.
+    fn with_names(alloc: Global, tree: Tree, metrics: Metrics) -> Result<Scene, OutOfMemory>
+        requires tree { tree ≡ (first_scene []).tree }
+        requires metrics { metrics ≡ [] }
+        ensures corner { IfOk result (λ history. IsFirstCorner history.scene.corner) }
+        ensures first { IfOk result (λ history.
+            history ≡ record { scene = first_scene history.scene.corner; earlier = [] }) }
+    {
+        let items = first_items(alloc)?;
+        let pasts = VecDeque::with_capacity(alloc, EARLIER + 1)?;
+        Scene::with_parts(alloc, tree, metrics, items, pasts)
+    }
+
+    /// The window alone.
+    pub fn new(alloc: Global) -> Result<Scene, OutOfMemory>
+        ensures corner { IfOk result (λ history. IsFirstCorner history.scene.corner) }
+        ensures first { IfOk result (λ history.
+            history ≡ record { scene = first_scene history.scene.corner; earlier = [] }) }
+    {
+        let tree = Tree::new(alloc)?;
+        let metrics = Metrics::new(alloc)?;
+        Scene::with_names(alloc, tree, metrics)
     }
 
     /// The views.

@@ -1,6 +1,8 @@
 -- What the commands of a session come to, and which cause of a refusal comes first.
+pub mod Carried
 pub mod Chains
 pub mod Diagnosed
+pub mod Drafts
 pub mod LeavingSteps
 pub mod LineStops
 pub mod Rooms

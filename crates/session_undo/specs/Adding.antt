@@ -1,6 +1,6 @@
 -- Parts of the steps.
 use Rattle.std.specs.Prelude.{◌≡◌, ◌≢◌, ℕ, ◌*◌, ◌<◌, ◌≤◌, false, List, [], length, Some, All, IsSome, Option}
-use Rattle.std.specs.Prelude.{None, IfOk}
+use Rattle.std.specs.Prelude.{None}
 use Rattle.span_text.specs.Objects.{Meant}
 use Rattle.script_text.specs.declared.words.AttrWord.{AttrWord}
 use Rattle.name_tables.specs.declared.stops.LimitWord.{LimitWord}
@@ -9,9 +9,13 @@ use Rattle.view_tree.specs.Drops.{AreGoing}
 use Rattle.view_tree.specs.JsonTrees.{JsonTree, IsTreeText, names, size, with_branch}
 use Rattle.scenes.specs.Scene.{Scene, metrics_with}
 use Rattle.view_tree.specs.JsonStops.{AreFree, GoesIn, IsWithin}
+use Rattle.view_tree.specs.Stops.{IsNewView, MayStop}
+use Rattle.view_tree.specs.declared.stops.ViewStop.TheVariants as view_stop
+use Rattle.held_items.specs.declared.item.coming.NewViews.{NewViews}
+use Rattle.scenes.specs.Drafts.{AreComing}
 use Rattle.frac_core.specs.Fraction.{Fraction}
 use Rattle.problem_core.specs.Kept.{IsRow}
-use Rattle.problem_core.specs.Layout.{Row, Problem}
+use Rattle.problem_core.specs.Layout.{Row}
 use Rattle.compile_parts.specs.Meaning.{MetricList, IsRank, unknown_object}
 use Rattle.constraint_compile.specs.Compiled.{CompiledLine, AreRowsNow}
 use Rattle.compile_parts.specs.Fractions.{negated, IsConstant, IsSmallConstant}
@@ -31,10 +35,10 @@ use Rattle.held_items.specs.declared.row_numbers.TheConstants.{SIZE_ROWS, VIEW_R
 use Rattle.held_items.specs.Attributes.{IsNextLine}
 use Rattle.held_items.specs.Items.{has_size, suggestion_of}
 use Rattle.scenes.specs.Moving.{AreChangesFor}
-use Rattle.session_undo.specs.Replies.{Reply, Unknown, Limit, Kind, place_of, Done}
+use Rattle.session_undo.specs.Replies.{Reply, Unknown, Taken, Limit, Kind, place_of}
 use Rattle.session_undo.specs.State.{State}
 use Rattle.session_undo.specs.Machine.{still_place, Unless, Keeps, IsCrowded, HasAllLines, IsTaken, IsDeep}
-use Rattle.session_undo.specs.Machine.{AreTooMany, HasAllViews, Suggests, UnlessRankless, PosesDraft}
+use Rattle.session_undo.specs.Machine.{AreTooMany, HasAllViews, Suggests, UnlessRankless}
 use Rattle.held_items.specs.Moving.{FitsAfter, IsFarSize}
 use Rattle.name_tables.specs.declared.stops.LimitWord.TheVariants as word
 use Rattle.view_tree.specs.Views as tree
@@ -81,12 +85,34 @@ NoEnd draft reply new = ⊥
 abbrev pub NoOther : Reply → State → Reply → State → Type 0
 NoOther answer next reply new = ⊥
 
--- where a problem is posed, no cause that is tried is against the command, and the problem is its draft's
-abbrev pub Posing : ((Scene → Reply → State → Type 0) → Reply → State → Type 0) → State
-    → Result Problem Refusal → Type 0
-Posing Causes old result = IfOk result (λ p. Causes (PosesDraft p) Done old)
-
 -- ---- no cause is there
+
+-- where no view may have this name, whatever view it is to stand in, why; otherwise as F says
+abbrev pub UnlessUnfree : State → List ℕ → (Reply → State → Type 0) → Reply → State → Type 0
+UnlessUnfree old name F =
+    Unless (IsTaken old.scene name) (Taken name) old
+    (Unless (NAME_LIMIT < length name) (Limit word.Name) old
+    (Unless (HasAllViews old) (Limit word.Views) old F))
+
+-- neither a view nor a metric has the name, it is short, and a view more is not too many
+pub record IsFreeName (old : State) (name : List ℕ) : Type 0 where
+  pub free : IsTaken old.scene name → ⊥
+  pub short : length name ≤ NAME_LIMIT
+  pub few : length old.scene.tree.views < old.limits.views
+
+-- the views that come are one of this name, in the one of that number
+pub record IsViewMore (scene : Scene) (name : List ℕ) (above : ℕ) (new : NewViews) : Type 0 where
+  pub fresh : IsNewView scene.tree name above
+  pub tree_is : new.tree ≡ tree.with_view scene.tree name above
+  pub id_is : new.first_view.0 ≡ scene.tree.next
+  pub one : new.count ≡ 1
+  pub coming : AreComing scene new
+
+-- a view of this name, in the one of that number, would pass this limit of the tree
+abbrev pub ViewStep : State → List ℕ → ℕ → Reply → State → Type 0
+ViewStep old name above reply new =
+    (limit : LimitWord) × MayStop old.scene.tree name above (view_stop.Limit limit)
+    × Keeps (Limit limit) old reply new
 
 -- the view may be made, and this is the tree with it
 pub record IsFreeView (old : State) (name parent : List ℕ) (new : ViewTree) (id : ℕ) : Type 0 where

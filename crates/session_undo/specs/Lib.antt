@@ -1,4 +1,5 @@
 pub mod Adding
+pub mod Asking
 pub mod Constants
 pub mod Kept
 pub mod Machine

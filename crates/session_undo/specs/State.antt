@@ -1,10 +1,11 @@
 -- What a session holds: a scene, those before it, and how much there may be.
-use Rattle.std.specs.Prelude.{ℕ, List, [], All}
+use Rattle.std.specs.Prelude.{◌≡◌, ℕ, List, [], All}
+use Rattle.problem_core.specs.declared.parts.Mark.{Mark}
 use Rattle.view_tree.specs.declared.limits.TheConstants.{VIEW_LIMIT}
 use Rattle.held_items.specs.declared.limits.TheConstants.{MOST_ROWS}
 use Rattle.scenes.specs.declared.limits.TheConstants.{FIRST_BUDGET}
 use Rattle.session_undo.specs.declared.limits.TheConstants.{MOST_LINES}
-use Rattle.scenes.specs.Scene.{IsBestScene, first_scene, Scene}
+use Rattle.scenes.specs.Scene.{IsBestScene, IsFirstCorner, first_scene, Scene}
 
 -- how many views, lines of groups and rows there may be
 pub record Limits : Type 0 where
@@ -29,7 +30,11 @@ IsBestState s = IsBestScene s.scene × All IsBestScene s.earlier
 abbrev pub first_limits : Limits
 first_limits = record { views = VIEW_LIMIT; lines = MOST_LINES; rows = MOST_ROWS }
 
--- a new session
-abbrev pub first_state : State
-first_state =
-    record { scene = first_scene; earlier = []; budget = FIRST_BUDGET; limits = first_limits }
+-- a new session, where the marks inside are these
+abbrev pub first_state : List Mark → State
+first_state corner =
+    record { scene = first_scene corner; earlier = []; budget = FIRST_BUDGET; limits = first_limits }
+
+-- the session is new, and its values stand at its corner, which is an end
+abbrev pub IsFirst : State → Type 0
+IsFirst s = IsFirstCorner s.scene.corner × (s ≡ first_state s.scene.corner)

@@ -21,10 +21,11 @@
 //! What solves a draft, and what a problem is of, is the scene's (`scenes`): a session finds the causes against
 //! a command, and tells what the scene's step came to.
 //!
-//! In reading order: `reply`, `limits`, `changes`, `session`.
+//! In reading order: `reply`, `limits`, `changes`, `draft` (what a command asks of the scene), `session`.
 #![tactic(auto)]
 
 mod changes;
+mod draft;
 mod limits;
 mod reply;
 mod session;

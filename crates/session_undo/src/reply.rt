@@ -1,7 +1,11 @@
 // What a session says to a line: its replies, and the causes of its refusals.
-ghost use Rattle.std.specs.Prelude.{◌≡◌};
-ghost use Rattle.session_undo.specs.Adding.{refusal_of, answer_of, IsLeftAnswer, TellsStop};
+ghost use Rattle.std.specs.Prelude.{◌≡◌, ℕ, List};
+ghost use Rattle.view_tree.specs.JsonStops.{MayStayOut};
+ghost use Rattle.session_undo.specs.Adding.{refusal_of, answer_of, IsLeftAnswer, NoEnd, TellsStop};
+ghost use Rattle.session_undo.specs.Machine.{TriedTree};
 ghost use Rattle.session_undo.specs.Probed.{probe_refusal};
+ghost use Rattle.session_undo.specs.Replies.{MayRefuse};
+ghost use Rattle.session_undo.specs.State.{State};
 
 use cert_core::{Best, Conflict, Path, RunStop, UnfitPath};
 use compile_parts::KindWord;
@@ -11,6 +15,7 @@ use layout_solver::RemoveStop;
 use name_tables::{LimitWord, OwnedName};
 use std::alloc::AllocError;
 use thiserror::Error;
+use view_tree::TreeStop;
 
 /// The reply to an accepted line.
 #[derive(Debug, Drop)]
@@ -102,6 +107,21 @@ impl From<AllocError> for Refusal {
 
     fn from(_: AllocError) -> Refusal {
         Refusal::OutOfMemory
+    }
+}
+
+/// The refusal for what keeps a tree out, whose text begins at this offset of its line.
+pub fn tree_refusal(start: usize, stop: TreeStop) -> Refusal
+    ensures { (old : State) (text : List ℕ) → MayStayOut old.scene.tree old.scene.metrics text stop
+        → MayRefuse (λ reply. TriedTree old text start NoEnd reply old) result }
+{
+    match stop {
+        TreeStop::Syntax => Refusal::Syntax(start),
+        TreeStop::Shape => Refusal::Kind(KindWord::Tree),
+        TreeStop::Unknown(name) => Refusal::Unknown(name),
+        TreeStop::Taken(name) => Refusal::Taken(name),
+        TreeStop::Limit(word) => Refusal::Limit(word),
+        TreeStop::OutOfMemory => Refusal::OutOfMemory,
     }
 }
 

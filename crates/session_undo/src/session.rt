@@ -1,12 +1,15 @@
 // The session, and what each command does to it.
 ghost use Rattle.std.specs.Prelude.{◌≡◌, ◌<◌, ◌≤◌, ◌⊎◌, true, false, length, None};
-ghost use Rattle.std.specs.Prelude.{Option, Some, ℕ, IfOk, IfErr, IfSome, IfNone, OnOk, OnErr};
+ghost use Rattle.std.specs.Prelude.{Option, Some, ℕ, IfOk, IfErr, IfSome, IfNone, OnOk, OnErr, OnSome};
 ghost use Rattle.session_undo.specs.declared.limits.TheConstants.{BUDGET_LIMIT};
 ghost use Rattle.held_items.specs.declared.row_numbers.TheConstants.{SIZE_ROWS};
 
 use crate::changes::{parent_or_window, put_metric};
+use crate::draft::Draft;
 use crate::limits::{BUDGET_LIMIT, FIRST_LIMITS, Limits};
-use crate::reply::{NoEarlier, Refusal, Reply, answer_of, left_answer, probe_refusal};
+use crate::reply::{
+    NoEarlier, Refusal, Reply, answer_of, left_answer, probe_refusal, tree_refusal,
+};
 use compile_parts::{CompileStop, KindWord, RankStop};
 use constraint_compile::{Compiled, Suggestion, compile_line, suggested_constant, suggested_rank};
 use format_compile::{compile_format, format_row_count};
@@ -15,10 +18,10 @@ use held_items::{
     NewSuggestion, NewViews, SIZE_ROWS, VIEW_ROWS, WindowSize, fits_after, small_line_rows,
     suggestion_name,
 };
-use layout_solver::{Change, Engine};
+use layout_solver::Engine;
 use name_tables::{LimitWord, Metrics, NAME_LIMIT, OwnedName};
-use problem_core::{NUMBER_LIMIT, Problem, Row, Values};
-use scenes::{FIRST_BUDGET, Scene, values_of};
+use problem_core::{NUMBER_LIMIT, Problem, Values};
+use scenes::{FIRST_BUDGET, NewLine, NewMetrics, Scene, Update, values_of};
 use script_text::{Align, AttrWord, Command, Linear};
 use span_text::Object;
 use std::alloc::Global;
@@ -54,63 +57,47 @@ impl Model for Session {
     ghost invariant = { λ s. AreWithin (limits_of s.limits) };
 }
 
-// Metrics of which one is new or changed, and the changes to the constants that name it.
-#[derive(Drop)]
-struct NewMetrics {
-    metrics: Metrics,
-    to: Vec<Change>,
-}
-
-// A line of a group that is to be held, and its rows.
-#[derive(Drop)]
-struct NewLine {
-    group: OwnedName,
-    line: Compiled,
-    rows: Vec<Row>,
-}
-
 impl Session {
-    ghost use Rattle.script_text.specs.View.{view, linear_view};
+    ghost use Rattle.script_text.specs.View.{linear_view, view};
     ghost use Rattle.vfl_text.specs.View.{meaning};
+    ghost use Rattle.view_tree.specs.JsonStops as json;
     ghost use Rattle.view_tree.specs.Views.{view_of};
+    ghost use Rattle.scenes.specs.Scene.{metrics_with};
     ghost use Rattle.constraint_compile.specs.Compiled.{AreSmallForms};
     ghost use Rattle.constraint_compile.specs.Stops.{IsCompiled};
     ghost use Rattle.format_compile.specs.FormatRows.{IsCompiledFormat};
     ghost use Rattle.held_items.specs.Attributes.{IsNextLine};
-    ghost use Rattle.scenes.specs.Drafts.{AreComing, again_draft};
-    ghost use Rattle.session_undo.specs.Adding.{Posing};
+    ghost use Rattle.scenes.specs.Drafts.{AreComing};
+    ghost use Rattle.session_undo.specs.Adding.{AddStop, IsFreeLine, IsFreeMetric, IsFreeName, IsFreeSize};
+    ghost use Rattle.session_undo.specs.Adding.{IsFreeSuggestion, IsFreeTree, IsFreeView, IsGoing};
+    ghost use Rattle.session_undo.specs.Adding.{IsGroupFree, IsGroupLimit, IsHeldSuggestion, IsLineFree};
+    ghost use Rattle.session_undo.specs.Adding.{IsLineLimit, IsSuggestionFor, IsSuggestionOf, NoEnd, NoOther};
+    ghost use Rattle.session_undo.specs.Adding.{IsViewMore, StopStep, SuggestStep, UnlessUnfree, ViewStep};
     ghost use Rattle.scenes.specs.Frames.{IsFrameOf};
+    ghost use Rattle.session_undo.specs.Kept.{AreWithin};
     ghost use Rattle.session_undo.specs.State.{first_state};
-    ghost use Rattle.scenes.specs.Scene.{with_line};
-    ghost use Rattle.scenes.specs.Scene.{with_suggestion};
-    ghost use Rattle.session_undo.specs.Replies.{MayRefuse, Accepting, Refusing, Done, Limit};
-    ghost use Rattle.session_undo.specs.Replies as reply;
+    ghost use Rattle.session_undo.specs.Replies.{Accepting, Done, Limit, MayRefuse, Refusing};
     ghost use Rattle.held_items.specs.Items.{has_size};
-    ghost use Rattle.session_undo.specs.Machine.{IsTaken, TriedView, TriedTree, TriedMetric, TriedWindow};
-    ghost use Rattle.session_undo.specs.Machine.{TriedConstraint, TriedFormat, TriedBudget, Tried};
-    ghost use Rattle.session_undo.specs.Machine.{MeaningStep, Poses, PosesScene};
+    ghost use Rattle.session_undo.specs.Machine.{AreTooMany, Certifies, Diagnoses, IsCrowded, IsTaken, Keeps};
+    ghost use Rattle.session_undo.specs.Machine.{MeaningStep, Poses, PosesScene, Suggests, Tried};
+    ghost use Rattle.session_undo.specs.Machine.{TriedBudget, TriedConstraint, TriedDrop, TriedFormat};
+    ghost use Rattle.session_undo.specs.Machine.{TriedMetric, TriedRelease, TriedRemove, TriedSuggest};
+    ghost use Rattle.session_undo.specs.Machine.{TriedTree, TriedUndo, TriedView, TriedWindow};
+    ghost use Rattle.session_undo.specs.Machine.{UnlessRankless};
     ghost use Rattle.scenes.specs.Steps.{IsProblemOf};
     ghost use Rattle.held_items.specs.Moving.{FitsAfter};
-    ghost use Rattle.session_undo.specs.Machine.{IsCrowded, Keeps, LeavesFree, Solves, SolvesFree};
-    ghost use Rattle.session_undo.specs.Machine.{TriedDrop, TriedRelease, TriedRemove, TriedSuggest};
-    ghost use Rattle.session_undo.specs.Machine.{Certifies, Diagnoses, Suggests, TriedUndo, UnlessRankless};
-    ghost use Rattle.session_undo.specs.Adding.{IsFreeSuggestion, IsHeldSuggestion};
-    ghost use Rattle.scenes.specs.Drafts.{IsNearSuggestion};
-    ghost use Rattle.scenes.specs.Drafts.{IsNextSuggestion};
-    ghost use Rattle.session_undo.specs.Adding.{IsSuggestionFor, IsSuggestionOf};
-    ghost use Rattle.session_undo.specs.Adding.{SuggestStep};
     ghost use Rattle.compile_parts.specs.Meaning.{IsRank, unknown_object};
     ghost use Rattle.constraint_compile.specs.Suggestions.{suggested_priority};
-    ghost use Rattle.span_text.specs.Objects.{object_view};
-    ghost use Rattle.span_text.specs.Objects.{Meant};
-    ghost use Rattle.session_undo.specs.Adding.{AddStop, StopStep, NoEnd, NoOther};
-    ghost use Rattle.session_undo.specs.Adding.{IsFreeView, IsFreeTree, IsFreeMetric};
-    ghost use Rattle.session_undo.specs.Adding.{IsFreeLine, IsGroupLimit, IsGroupFree, IsLineLimit};
-    ghost use Rattle.session_undo.specs.Adding.{IsLineFree, IsFreeSize, IsGoing};
+    ghost use Rattle.span_text.specs.Objects.{Meant, object_view};
+    ghost use Rattle.session_undo.specs.Asking.{Any, EndsAs, Free, IsDraft, Left, MayTake, Plain, drafted};
+    ghost use Rattle.session_undo.specs.Asking.{kind_for, kind_of};
+    ghost use Rattle.held_items.specs.Leaving.{is_in_group};
+    ghost use Rattle.std.specs.List.{list_any};
+    ghost use Rattle.session_undo.specs.Replies as reply;
 
     /// The window alone, and a budget of 100,000 exchanges.
     pub fn new(alloc: Global) -> Result<Session, OutOfMemory>
-        ensures { IfOk result (λ session. session ≡ first_state) }
+        ensures { IfOk result IsFirst }
     {
         Ok(Session {
             scene: Scene::new(alloc)?,
@@ -151,19 +138,11 @@ impl Session {
         self.scene.tree().len() >= self.limits.views
     }
 
-    // The views with a new one in the one of the name `parent`.
-    fn new_view(&self, name: &str, parent: &str) -> Result<NewViews, Refusal>
-        ensures made { IfOk result
-            (λ new. IsFreeView self.now name.now parent.now new.tree new.first_view.0) }
-        ensures one { IfOk result (λ new. new.count ≡ 1) }
-        ensures grown { IfOk result (AreComing self.now.scene) }
-        ensures refused { IfErr result
-            (MayRefuse (λ reply. TriedView self.now name.now parent.now NoEnd reply self.now)) }
+    // Why no view may have this name, whatever view it is to stand in.
+    fn free_name(&self, name: &str) -> Result<(), Refusal>
+        ensures free { OnOk result (IsFreeName self.now name.now) }
+        ensures refused { Refusing (UnlessUnfree self.now name.now (λ reply new. ⊥)) self.now result }
     {
-        let views = self.scene.tree();
-        let Some(above) = views.find(parent) else {
-            return Err(Refusal::Unknown(OwnedName::of(self.alloc, parent.as_bytes())?));
-        };
         if self.is_taken(name) {
             return Err(Refusal::Taken(OwnedName::of(self.alloc, name.as_bytes())?));
         }
@@ -173,48 +152,69 @@ impl Session {
         if self.has_all_views() {
             return Err(Refusal::Limit(LimitWord::Views));
         }
+        Ok(())
+    }
+
+    // The views with one more of this name in this one, or the limit of the tree that it would pass.
+    fn views_with(&self, name: &str, above: ViewId) -> Result<NewViews, Refusal>
+        requires free { IsFreeName self.now name.now }
+        requires live { view_of self.now.scene.tree.views above.0 ≡ None → ⊥ }
+        ensures made { IfOk result (IsViewMore self.now.scene name.now above.0) }
+        ensures refused { Refusing (ViewStep self.now name.now above.0) self.now result }
+    {
+        let views = self.scene.tree();
         let _before = views.len(); // for the proof: what a tree keeps
         let mut tree = views.copy()?;
-        let first_view = match tree.add(name, above) {
-            Ok(id) => id,
-            Err(ViewStop::Limit(word)) => return Err(Refusal::Limit(word)),
-            Err(ViewStop::OutOfMemory) => return Err(Refusal::OutOfMemory),
+        match tree.add(name, above) {
+            Ok(first_view) => {
+                let _after = tree.len(); // for the proof: what a tree keeps
+                Ok(NewViews {
+                    tree,
+                    first_view,
+                    count: 1,
+                })
+            }
+            Err(ViewStop::Limit(word)) => Err(Refusal::Limit(word)),
+            Err(ViewStop::OutOfMemory) => Err(Refusal::OutOfMemory),
             Err(ViewStop::Taken) => unreachable!(),
             Err(ViewStop::Unknown) => unreachable!(),
+        }
+    }
+
+    // The views with a new one in the one of the name `parent`.
+    fn new_view(&self, name: &str, parent: &str) -> Result<NewViews, Refusal>
+        ensures made { IfOk result
+            (λ new. IsFreeView self.now name.now parent.now new.tree new.first_view.0) }
+        ensures one { IfOk result (λ new. new.count ≡ 1) }
+        ensures grown { IfOk result (AreComing self.now.scene) }
+        ensures refused { IfErr result
+            (MayRefuse (λ reply. TriedView self.now name.now parent.now NoEnd reply self.now)) }
+    {
+        let Some(above) = self.scene.tree().find(parent) else {
+            return Err(Refusal::Unknown(OwnedName::of(self.alloc, parent.as_bytes())?));
         };
+        self.free_name(name)?;
+        let new = self.views_with(name, above)?;
         if self.is_crowded(VIEW_ROWS as usize) {
             return Err(Refusal::Limit(LimitWord::Rows));
         }
-        let _after = tree.len(); // for the proof: what a tree keeps
-        Ok(NewViews {
-            tree,
-            first_view,
-            count: 1,
-        })
+        Ok(new)
     }
 
-    // The views with those of a tree, whose text begins at this offset of its line.
-    fn new_tree(&self, text: &[u8], start: usize) -> Result<NewViews, Refusal>
-        ensures made { IfOk result (λ new. IsFreeTree self.now text.now new.tree new.first_view.0 new.count) }
+    // The views with those of a tree, or what is wrong with it.
+    fn views_with_tree(&self, text: &[u8]) -> Result<NewViews, TreeStop>
+        ensures made { IfOk result
+            (λ new. json.IsGrown self.now.scene.tree self.now.scene.metrics text.now new.tree new.count) }
+        ensures first { IfOk result (λ new. new.first_view.0 ≡ self.now.scene.tree.next) }
         ensures grown { IfOk result (AreComing self.now.scene) }
-        ensures refused { Refusing (TriedTree self.now text.now start NoEnd) self.now result }
+        ensures stop { IfErr result
+            (json.MayStayOut self.now.scene.tree self.now.scene.metrics text.now) }
     {
         let views = self.scene.tree();
         let before = views.len();
         let mut tree = views.copy()?;
-        let count = match tree.add_json(text, self.scene.metrics()) {
-            Ok(count) => count,
-            Err(TreeStop::Syntax) => return Err(Refusal::Syntax(start)),
-            Err(TreeStop::Shape) => return Err(Refusal::Kind(KindWord::Tree)),
-            Err(TreeStop::Unknown(name)) => return Err(Refusal::Unknown(name)),
-            Err(TreeStop::Taken(name)) => return Err(Refusal::Taken(name)),
-            Err(TreeStop::Limit(word)) => return Err(Refusal::Limit(word)),
-            Err(TreeStop::OutOfMemory) => return Err(Refusal::OutOfMemory),
-        };
+        let count = tree.add_json(text, self.scene.metrics())?;
         let _after = tree.len(); // for the proof: what a tree keeps
-        if self.is_crowded(VIEW_ROWS as usize * count as usize) {
-            return Err(Refusal::Limit(LimitWord::Rows));
-        }
         // The tree has at least one view.
         let Some(first) = tree.at(before) else {
             unreachable!()
@@ -227,30 +227,36 @@ impl Session {
         })
     }
 
-    // A new view in the one of the name `parent`.
-    fn add_view(&mut self, name: &str, parent: &str) -> Result<Reply, Refusal>
-        ensures accepted { Accepting
-            (TriedView self.old name.now parent.now (SolvesFree self.old)) self.new result }
-        ensures refused { Refusing
-            (TriedView self.old name.now parent.now (SolvesFree self.old)) self.old result }
-        ensures same { OnErr result (self.new ≡ self.old) }
+    // The views with those of a tree, whose text begins at this offset of its line.
+    fn new_tree(&self, text: &[u8], start: usize) -> Result<NewViews, Refusal>
+        ensures made { IfOk result (λ new. IsFreeTree self.now text.now new.tree new.first_view.0 new.count) }
+        ensures grown { IfOk result (AreComing self.now.scene) }
+        ensures refused { Refusing (TriedTree self.now text.now start NoEnd) self.now result }
     {
-        let new = self.new_view(name, parent)?;
-        let end = self.scene.take_views(new, self.budget);
-        answer_of(end)
+        match self.views_with_tree(text) {
+            Ok(new) => {
+                if self.is_crowded(VIEW_ROWS as usize * new.count as usize) {
+                    return Err(Refusal::Limit(LimitWord::Rows));
+                }
+                Ok(new)
+            }
+            Err(stop) => Err(tree_refusal(start, stop)),
+        }
     }
 
-    // The views of a tree, whose text begins at this offset of its line.
-    fn add_tree(&mut self, text: &[u8], start: usize) -> Result<Reply, Refusal>
-        ensures accepted { Accepting
-            (TriedTree self.old text.now start (SolvesFree self.old)) self.new result }
-        ensures refused { Refusing
-            (TriedTree self.old text.now start (SolvesFree self.old)) self.old result }
-        ensures same { OnErr result (self.new ≡ self.old) }
+    // The metrics with this value of one, where there is room for it.
+    fn metrics_with(&self, name: &str, value: Frac) -> Result<Option<Metrics>, OutOfMemory>
+        ensures made { IfOk result (λ o. IfSome o
+            (λ metrics. metrics ≡ metrics_with self.now.scene.metrics name.now value)) }
+        ensures room { IfOk result
+            (λ o. OnSome o (AreTooMany self.now.scene.metrics name.now → ⊥)) }
+        ensures full { IfOk result (λ o. IfNone o (AreTooMany self.now.scene.metrics name.now)) }
     {
-        let new = self.new_tree(text, start)?;
-        let end = self.scene.take_views(new, self.budget);
-        answer_of(end)
+        let mut metrics = self.scene.metrics().copy()?;
+        if !put_metric(&mut metrics, name, value)? {
+            return Ok(None);
+        }
+        Ok(Some(metrics))
     }
 
     // The metrics of which this one is new or has another value, with the changes for them.
@@ -264,27 +270,14 @@ impl Session {
         if name.len() > NAME_LIMIT {
             return Err(Refusal::Limit(LimitWord::Name));
         }
-        let mut metrics = self.scene.metrics().copy()?;
-        if !put_metric(&mut metrics, name, value)? {
+        let Some(metrics) = self.metrics_with(name, value)? else {
             return Err(Refusal::Limit(LimitWord::Metrics));
-        }
-        let to = match self.scene.changes_for(&metrics, name) {
-            Ok(to) => to,
-            Err(Stop::Refused(_)) => return Err(Refusal::Limit(LimitWord::Constant)),
-            Err(Stop::OutOfMemory) => return Err(Refusal::OutOfMemory),
         };
-        Ok(NewMetrics { metrics, to })
-    }
-
-    // A metric is made, or has another value.
-    fn set_metric(&mut self, name: &str, value: Frac) -> Result<Reply, Refusal>
-        ensures accepted { Accepting (TriedMetric self.old name.now value (Solves self.old)) self.new result }
-        ensures refused { Refusing (TriedMetric self.old name.now value (Solves self.old)) self.old result }
-        ensures same { OnErr result (self.new ≡ self.old) }
-    {
-        let new = self.new_metrics(name, value)?;
-        let end = self.scene.take_metrics(new.metrics, &new.to, self.budget);
-        answer_of(end)
+        match self.scene.changes_for(&metrics, name) {
+            Ok(to) => Ok(NewMetrics { metrics, to }),
+            Err(Stop::Refused(_)) => Err(Refusal::Limit(LimitWord::Constant)),
+            Err(Stop::OutOfMemory) => Err(Refusal::OutOfMemory),
+        }
     }
 
     // The limit that this size of the window would pass.
@@ -302,20 +295,17 @@ impl Session {
         None
     }
 
-    // The window has these constants.
-    fn resize(&mut self, width: Frac, height: Frac) -> Result<Reply, Refusal>
-        ensures accepted { Accepting
-            (TriedWindow self.old width height (Solves self.old)) self.new result }
-        ensures refused { Refusing
-            (TriedWindow self.old width height (Solves self.old)) self.old result }
-        ensures same { OnErr result (self.new ≡ self.old) }
+    // The size of the window with these constants.
+    fn new_size(&self, width: Frac, height: Frac) -> Result<WindowSize, Refusal>
+        ensures is { IfOk result (λ size. size ≡ record { width = width; height = height }) }
+        ensures made { OnOk result (IsFreeSize self.now width height) }
+        ensures refused { Refusing (TriedWindow self.now width height NoEnd) self.now result }
     {
         let size = WindowSize { width, height };
-        if let Some(word) = self.size_limit(&size) {
-            return Err(Refusal::Limit(word));
+        match self.size_limit(&size) {
+            Some(word) => Err(Refusal::Limit(word)),
+            None => Ok(size),
         }
-        let end = self.scene.take_size(&size, self.budget);
-        answer_of(end)
     }
 
     // Whether the window has no size, and there is no room for the rows of one.
@@ -371,21 +361,6 @@ impl Session {
         Ok(NewLine { group, line, rows })
     }
 
-    // The group has a line more.
-    fn add_line(&mut self, new: NewLine) -> Result<Reply, Refusal>
-        requires { IsFreeLine self.old new.group new.group new.line new.rows.items }
-        ensures accepted { Accepting
-            (Solves self.old (with_line self.old.scene new.group new.line)) self.new result }
-        ensures refused { Refusing
-            (Solves self.old (with_line self.old.scene new.group new.line)) self.old result }
-        ensures same { OnErr result (self.new ≡ self.old) }
-    {
-        let end = self
-            .scene
-            .take_line(new.group, new.line, &new.rows, self.budget);
-        answer_of(end)
-    }
-
     // The refusal of a line of so many rows at which the compiler stops.
     fn line_refusal(&self, group: &str, count: usize, stop: CompileStop) -> Refusal
         ensures { MayRefuse (λ reply. StopStep self.now group.now count stop reply self.now) result }
@@ -420,18 +395,6 @@ impl Session {
         }
     }
 
-    // A linear constraint joins its group.
-    fn constrain(&mut self, group: &str, line: &Linear<'_>) -> Result<Reply, Refusal>
-        ensures accepted { Accepting
-            (TriedConstraint self.old group.now (linear_view line.now) (Solves self.old)) self.new result }
-        ensures refused { Refusing
-            (TriedConstraint self.old group.now (linear_view line.now) (Solves self.old)) self.old result }
-        ensures same { OnErr result (self.new ≡ self.old) }
-    {
-        let new = self.new_constraint(group, line)?;
-        self.add_line(new)
-    }
-
     // The line that a format makes.
     fn new_format(
         &self,
@@ -464,23 +427,6 @@ impl Session {
         }
     }
 
-    // A format joins its group.
-    fn add_format(
-        &mut self,
-        group: &str,
-        align: Option<Align>,
-        format: &Format<'_>,
-    ) -> Result<Reply, Refusal>
-        ensures accepted { Accepting
-            (TriedFormat self.old group.now align (meaning format.now) (Solves self.old)) self.new result }
-        ensures refused { Refusing
-            (TriedFormat self.old group.now align (meaning format.now) (Solves self.old)) self.old result }
-        ensures same { OnErr result (self.new ≡ self.old) }
-    {
-        let new = self.new_format(group, align, format)?;
-        self.add_line(new)
-    }
-
     // The views that go with the view of this name.
     fn going(&self, name: &str) -> Result<Vec<u32>, Refusal>
         ensures going { IfOk result (λ gone. IsGoing self.now.scene name.now gone.items) }
@@ -496,28 +442,17 @@ impl Session {
         Ok(views.subtree(root)?)
     }
 
-    // The view of this name leaves, with all below it.
-    fn drop_view(&mut self, name: &str) -> Result<Reply, Refusal>
-        ensures accepted { Accepting (TriedDrop self.old name.now (LeavesFree self.old)) self.new result }
-        ensures refused { Refusing (TriedDrop self.old name.now (LeavesFree self.old)) self.old result }
-        ensures same { OnErr result (self.new ≡ self.old) }
+    // The name of a group of which a line is held.
+    fn held_group(&self, group: &str) -> Result<OwnedName, Refusal>
+        ensures is { IfOk result (λ name. name ≡ group.now) }
+        ensures held { OnOk result (list_any (is_in_group group.now) self.now.scene.held ≡ true) }
+        ensures refused { Refusing (TriedRemove self.now group.now NoEnd) self.now result }
     {
-        let gone = self.going(name)?;
-        let end = self.scene.take_views_out(&gone, self.budget);
-        left_answer(end)
-    }
-
-    // The lines of the group leave.
-    fn remove_group(&mut self, group: &str) -> Result<Reply, Refusal>
-        ensures accepted { Accepting (TriedRemove self.old group.now (LeavesFree self.old)) self.new result }
-        ensures refused { Refusing (TriedRemove self.old group.now (LeavesFree self.old)) self.old result }
-        ensures same { OnErr result (self.new ≡ self.old) }
-    {
+        let name = OwnedName::of(self.alloc, group.as_bytes())?;
         if !self.scene.has_group(group.as_bytes()) {
-            return Err(Refusal::Unknown(OwnedName::of(self.alloc, group.as_bytes())?));
+            return Err(Refusal::Unknown(name));
         }
-        let end = self.scene.take_group_out(group.as_bytes(), self.budget);
-        left_answer(end)
+        Ok(name)
     }
 
     // The rank that a suggestion's priority stands for.
@@ -643,49 +578,6 @@ impl Session {
         self.suggestion_for(view, word, value, priority)
     }
 
-    // The first suggestion of an attribute joins.
-    fn suggest_first(&mut self, new: Suggestion) -> Result<Reply, Refusal>
-        requires next { IsNextSuggestion self.old.scene new }
-        requires room { IsCrowded self.old 1 → ⊥ }
-        ensures accepted { Accepting (Solves self.old (with_suggestion self.old.scene new)) self.new result }
-        ensures refused { Refusing (Solves self.old (with_suggestion self.old.scene new)) self.old result }
-        ensures same { OnErr result (self.new ≡ self.old) }
-    {
-        let end = self.scene.take_suggestion(new, self.budget);
-        answer_of(end)
-    }
-
-    // A suggestion that is held has another constant.
-    fn suggest_later(&mut self, again: Suggestion) -> Result<Reply, Refusal>
-        requires { IsNearSuggestion self.old.scene again }
-        ensures accepted { Accepting (Solves self.old (again_draft self.old.scene again)) self.new result }
-        ensures refused { Refusing (Solves self.old (again_draft self.old.scene again)) self.old result }
-        ensures same { OnErr result (self.new ≡ self.old) }
-    {
-        let end = self.scene.take_suggested(again, self.budget);
-        answer_of(end)
-    }
-
-    // An attribute of the view of this name is to have a value.
-    fn suggest(
-        &mut self,
-        name: &str,
-        word: AttrWord,
-        value: Frac,
-        priority: Option<Object<'_>>,
-    ) -> Result<Reply, Refusal>
-        ensures accepted { Accepting (TriedSuggest self.old name.now word value (object_view priority.entry)
-            (Solves self.old)) self.new result }
-        ensures refused { Refusing (TriedSuggest self.old name.now word value (object_view priority.entry)
-            (Solves self.old)) self.old result }
-        ensures same { OnErr result (self.new ≡ self.old) }
-    {
-        match self.new_suggestion(name, word, value, priority)? {
-            NewSuggestion::First(new) => self.suggest_first(new),
-            NewSuggestion::Again(again) => self.suggest_later(again),
-        }
-    }
-
     // The view of this name, of which this suggestion is held.
     fn suggested(&self, name: &str, word: AttrWord) -> Result<ViewId, Refusal>
         ensures held { IfOk result (λ id. IsHeldSuggestion self.now.scene name.now word id.0) }
@@ -698,19 +590,6 @@ impl Session {
             return Err(Refusal::Unknown(suggestion_name(self.alloc, name, word)?));
         }
         Ok(view)
-    }
-
-    // The suggestion leaves.
-    fn release(&mut self, name: &str, word: AttrWord) -> Result<Reply, Refusal>
-        ensures accepted { Accepting
-            (TriedRelease self.old name.now word (LeavesFree self.old)) self.new result }
-        ensures refused { Refusing
-            (TriedRelease self.old name.now word (LeavesFree self.old)) self.old result }
-        ensures same { OnErr result (self.new ≡ self.old) }
-    {
-        let view = self.suggested(name, word)?;
-        let end = self.scene.take_suggestion_out(view, word, self.budget);
-        left_answer(end)
     }
 
     // A certificate of the scene's values.
@@ -782,127 +661,6 @@ impl Session {
         }
     }
 
-    // The problem with a new view in the one of the name `parent`.
-    fn view_problem(&self, name: &str, parent: &str) -> Result<Problem, Refusal>
-        ensures posed { Posing (TriedView self.now name.now parent.now) self.now result }
-        ensures refused { Refusing (TriedView self.now name.now parent.now NoEnd) self.now result }
-    {
-        let new = self.new_view(name, parent)?;
-        Ok(self.scene.views_problem(&new)?)
-    }
-
-    // The problem with the views of a tree, whose text begins at this offset of its line.
-    fn tree_problem(&self, text: &[u8], start: usize) -> Result<Problem, Refusal>
-        ensures posed { Posing (TriedTree self.now text.now start) self.now result }
-        ensures refused { Refusing (TriedTree self.now text.now start NoEnd) self.now result }
-    {
-        let new = self.new_tree(text, start)?;
-        Ok(self.scene.views_problem(&new)?)
-    }
-
-    // The problem with a metric that is new or has another value.
-    fn metric_problem(&self, name: &str, value: Frac) -> Result<Problem, Refusal>
-        ensures posed { Posing (TriedMetric self.now name.now value) self.now result }
-        ensures refused { Refusing (TriedMetric self.now name.now value NoEnd) self.now result }
-    {
-        let new = self.new_metrics(name, value)?;
-        Ok(self.scene.metrics_problem(&new.to)?)
-    }
-
-    // The problem with this size of the window.
-    fn size_problem(&self, size: &WindowSize) -> Result<Problem, Refusal>
-        ensures posed { Posing (TriedWindow self.now size.now.width size.now.height) self.now result }
-        ensures refused { Refusing
-            (TriedWindow self.now size.now.width size.now.height NoEnd) self.now result }
-    {
-        if let Some(word) = self.size_limit(size) {
-            return Err(Refusal::Limit(word));
-        }
-        Ok(self.scene.size_problem(size)?)
-    }
-
-    // The problem with a line more.
-    fn line_problem(&self, new: NewLine) -> Result<Problem, OutOfMemory>
-        requires { IsFreeLine self.now new.group new.group new.line new.rows.items }
-        ensures { IfOk result (IsProblemOf (with_line self.now.scene new.group new.line)) }
-    {
-        let NewLine { line, rows, .. } = new;
-        self.scene.line_problem(&line, rows)
-    }
-
-    // The problem with a linear constraint more.
-    fn constraint_problem(&self, group: &str, line: &Linear<'_>) -> Result<Problem, Refusal>
-        ensures posed { Posing (TriedConstraint self.now group.now (linear_view line.now)) self.now result }
-        ensures refused { Refusing
-            (TriedConstraint self.now group.now (linear_view line.now) NoEnd) self.now result }
-    {
-        let new = self.new_constraint(group, line)?;
-        Ok(self.line_problem(new)?)
-    }
-
-    // The problem with a format more.
-    fn format_problem(
-        &self,
-        group: &str,
-        align: Option<Align>,
-        format: &Format<'_>,
-    ) -> Result<Problem, Refusal>
-        ensures posed { Posing (TriedFormat self.now group.now align (meaning format.now)) self.now result }
-        ensures refused { Refusing
-            (TriedFormat self.now group.now align (meaning format.now) NoEnd) self.now result }
-    {
-        let new = self.new_format(group, align, format)?;
-        Ok(self.line_problem(new)?)
-    }
-
-    // The problem without the view of this name and all below it.
-    fn drop_problem(&self, name: &str) -> Result<Problem, Refusal>
-        ensures posed { Posing (TriedDrop self.now name.now) self.now result }
-        ensures refused { Refusing (TriedDrop self.now name.now NoEnd) self.now result }
-    {
-        let gone = self.going(name)?;
-        Ok(self.scene.left_problem(&gone)?)
-    }
-
-    // The problem without the lines of the group.
-    fn remove_problem(&self, group: &str) -> Result<Problem, Refusal>
-        ensures posed { Posing (TriedRemove self.now group.now) self.now result }
-        ensures refused { Refusing (TriedRemove self.now group.now NoEnd) self.now result }
-    {
-        if !self.scene.has_group(group.as_bytes()) {
-            return Err(Refusal::Unknown(OwnedName::of(self.alloc, group.as_bytes())?));
-        }
-        Ok(self.scene.group_problem(group.as_bytes())?)
-    }
-
-    // The problem with this suggestion.
-    fn suggest_problem(
-        &self,
-        name: &str,
-        word: AttrWord,
-        value: Frac,
-        priority: Option<Object<'_>>,
-    ) -> Result<Problem, Refusal>
-        ensures posed { Posing
-            (TriedSuggest self.now name.now word value (object_view priority.entry)) self.now result }
-        ensures refused { Refusing
-            (TriedSuggest self.now name.now word value (object_view priority.entry) NoEnd) self.now result }
-    {
-        match self.new_suggestion(name, word, value, priority)? {
-            NewSuggestion::First(new) => Ok(self.scene.suggestion_problem(&new)?),
-            NewSuggestion::Again(again) => Ok(self.scene.suggested_problem(&again)?),
-        }
-    }
-
-    // The problem without this suggestion.
-    fn release_problem(&self, name: &str, word: AttrWord) -> Result<Problem, Refusal>
-        ensures posed { Posing (TriedRelease self.now name.now word) self.now result }
-        ensures refused { Refusing (TriedRelease self.now name.now word NoEnd) self.now result }
-    {
-        let view = self.suggested(name, word)?;
-        Ok(self.scene.release_problem(view, word)?)
-    }
-
     // The scene's problem, where so many exchanges may be allowed.
     fn budget_problem(&self, exchanges: u64) -> Result<Problem, Refusal>
         ensures posed { IfOk result
@@ -915,36 +673,183 @@ impl Session {
         Ok(self.scene.problem()?)
     }
 
-    /// The problem that a command would solve, with the stays at the present values; of a command that solves
-    /// nothing it is the scene's. It is refused by the causes, in their order, by which `apply` refuses the
-    /// command before it solves. It makes the problem, which nothing holds, from copies of the rows.
-    pub fn step_problem(&self, command: &Command<'_>) -> Result<Problem, Refusal>
-        ensures posed { IfOk result (Poses self.now (view command.now)) }
+    // What a session keeps, for proofs.
+    fn show_limits(&self)
+        ensures { AreWithin self.now.limits }
+    {}
+
+    // The draft of a command by which views come.
+    fn views_draft(&self, command: &Command<'_>) -> Result<Option<Draft>, Refusal>
+        ensures made { IfOk result (λ o. IfSome o (IsDraft self.now (view command.now))) }
+        ensures none { IfOk result (λ o. IfNone o (kind_for (view command.now) ≡ Free → ⊥)) }
         ensures refused { Refusing (Tried self.now (view command.now) NoEnd NoOther) self.now result }
     {
+        self.show_limits(); // for the proof: what a session keeps
         match command {
-            Command::View { name, parent } => self.view_problem(name, parent_or_window(*parent)),
-            Command::Tree { text, start } => self.tree_problem(text, *start),
-            Command::Drop { name } => self.drop_problem(name),
-            Command::Remove { group } => self.remove_problem(group),
+            Command::View { name, parent } => {
+                let new = self.new_view(name, parent_or_window(*parent))?;
+                Ok(Some(Draft::Views(new)))
+            }
+            Command::Tree { text, start } => {
+                let new = self.new_tree(text, *start)?;
+                Ok(Some(Draft::Views(new)))
+            }
+            _ => Ok(None),
+        }
+    }
+
+    // The draft of a command after which something is held that wasn't, views left out.
+    fn update_draft(&self, command: &Command<'_>) -> Result<Option<Draft>, Refusal>
+        ensures made { IfOk result (λ o. IfSome o (IsDraft self.now (view command.now))) }
+        ensures none { IfOk result (λ o. IfNone o (kind_for (view command.now) ≡ Any → ⊥)) }
+        ensures refused { Refusing (Tried self.now (view command.now) NoEnd NoOther) self.now result }
+    {
+        self.show_limits(); // for the proof: what a session keeps
+        match command {
+            Command::Metric { name, value } => {
+                let new = self.new_metrics(name, *value)?;
+                Ok(Some(Draft::Update(Update::Metrics(new))))
+            }
+            Command::Window { width, height } => {
+                let size = self.new_size(*width, *height)?;
+                Ok(Some(Draft::Update(Update::Size(size))))
+            }
+            Command::Constrain { group, line } => {
+                let new = self.new_constraint(group, line)?;
+                Ok(Some(Draft::Update(Update::Line(new))))
+            }
+            Command::Vfl {
+                group,
+                align,
+                format,
+            } => {
+                let new = self.new_format(group, *align, format)?;
+                Ok(Some(Draft::Update(Update::Line(new))))
+            }
             Command::Suggest {
                 view,
                 word,
                 value,
                 priority,
-            } => self.suggest_problem(view, *word, *value, *priority),
-            Command::Release { view, word } => self.release_problem(view, *word),
-            Command::Metric { name, value } => self.metric_problem(name, *value),
-            Command::Window { width, height } => self.size_problem(&WindowSize {
-                width: *width,
-                height: *height,
-            }),
-            Command::Constrain { group, line } => self.constraint_problem(group, line),
-            Command::Vfl {
-                group,
-                align,
-                format,
-            } => self.format_problem(group, *align, format),
+            } => {
+                let new = self.new_suggestion(view, *word, *value, *priority)?;
+                Ok(Some(Draft::Update(Update::Suggestion(new))))
+            }
+            _ => Ok(None),
+        }
+    }
+
+    // The draft of a command after which something is held no more.
+    fn leaving_draft(&self, command: &Command<'_>) -> Result<Option<Draft>, Refusal>
+        ensures made { IfOk result (λ o. IfSome o (IsDraft self.now (view command.now))) }
+        ensures none { IfOk result (λ o. IfNone o (kind_for (view command.now) ≡ Left → ⊥)) }
+        ensures refused { Refusing (Tried self.now (view command.now) NoEnd NoOther) self.now result }
+    {
+        match command {
+            Command::Drop { name } => {
+                let gone = self.going(name)?;
+                Ok(Some(Draft::ViewsOut(gone)))
+            }
+            Command::Remove { group } => {
+                let group = self.held_group(group)?;
+                Ok(Some(Draft::GroupOut(group)))
+            }
+            Command::Release { view, word } => {
+                let view = self.suggested(view, *word)?;
+                Ok(Some(Draft::SuggestionOut(view, *word)))
+            }
+            _ => Ok(None),
+        }
+    }
+
+    // What a command asks of the scene, if it asks for a step.
+    fn draft(&self, command: &Command<'_>) -> Result<Option<Draft>, Refusal>
+        ensures made { IfOk result (λ o. IfSome o (IsDraft self.now (view command.now))) }
+        ensures none { IfOk result (λ o. IfNone o (kind_for (view command.now) ≡ Plain)) }
+        ensures refused { Refusing (Tried self.now (view command.now) NoEnd NoOther) self.now result }
+    {
+        if let Some(draft) = self.views_draft(command)? {
+            return Ok(Some(draft));
+        }
+        if let Some(draft) = self.update_draft(command)? {
+            return Ok(Some(draft));
+        }
+        self.leaving_draft(command)
+    }
+
+    // The step to a draft.
+    fn take(&mut self, draft: Draft) -> Result<Reply, Refusal>
+        requires { MayTake self.old.scene draft }
+        ensures accepted { Accepting
+            (EndsAs self.old (kind_of draft) (drafted self.old.scene draft)) self.new result }
+        ensures refused { Refusing
+            (EndsAs self.old (kind_of draft) (drafted self.old.scene draft)) self.old result }
+        ensures same { OnErr result (self.new ≡ self.old) }
+    {
+        match draft {
+            Draft::Views(new) => {
+                let end = self.scene.take_views(new, self.budget);
+                answer_of(end)
+            }
+            Draft::Update(update) => {
+                let end = self.scene.update(update, self.budget);
+                answer_of(end)
+            }
+            Draft::ViewsOut(gone) => {
+                let end = self.scene.take_views_out(&gone, self.budget);
+                left_answer(end)
+            }
+            Draft::GroupOut(group) => {
+                let end = self.scene.take_group_out(group.bytes(), self.budget);
+                left_answer(end)
+            }
+            Draft::SuggestionOut(view, word) => {
+                let end = self.scene.take_suggestion_out(view, word, self.budget);
+                left_answer(end)
+            }
+        }
+    }
+
+    // The problem of a draft.
+    fn pose(&self, draft: Draft) -> Result<Problem, OutOfMemory>
+        requires { MayTake self.now.scene draft }
+        ensures { IfOk result (IsProblemOf (drafted self.now.scene draft)) }
+    {
+        match draft {
+            Draft::Views(new) => self.scene.views_problem(&new),
+            Draft::Update(update) => self.scene.update_problem(update),
+            Draft::ViewsOut(gone) => self.scene.left_problem(&gone),
+            Draft::GroupOut(group) => self.scene.group_problem(group.bytes()),
+            Draft::SuggestionOut(view, word) => self.scene.release_problem(view, word),
+        }
+    }
+
+    // What is answered to a command that asks for no step.
+    fn answer(&mut self, command: &Command<'_>) -> Result<Reply, Refusal>
+        requires { kind_for (view command.now) ≡ Plain }
+        ensures accepted { Accepting (MeaningStep self.old (view command.now)) self.new result }
+        ensures refused { Refusing (MeaningStep self.old (view command.now)) self.old result }
+        ensures same { OnErr result (self.new ≡ self.old) }
+    {
+        match command {
+            Command::Nothing => Ok(Reply::Silent),
+            Command::Frames => Ok(Reply::Frames),
+            Command::Rows => Ok(Reply::Rows),
+            Command::Certify => self.certify(),
+            Command::Diagnose => self.diagnose(),
+            Command::Undo => self.take_back(),
+            Command::Budget { exchanges } => self.set_budget(*exchanges),
+            _ => unreachable!(),
+        }
+    }
+
+    // The problem of a command that asks for no step, which is the scene's.
+    fn plain_problem(&self, command: &Command<'_>) -> Result<Problem, Refusal>
+        requires { kind_for (view command.now) ≡ Plain }
+        ensures posed { IfOk result (Poses self.now (view command.now)) }
+        ensures refused { Refusing (Tried self.now (view command.now) NoEnd NoOther) self.now result }
+    {
+        match command {
             Command::Undo => self.undo_problem(),
             Command::Budget { exchanges } => self.budget_problem(*exchanges),
             Command::Nothing
@@ -952,6 +857,20 @@ impl Session {
             | Command::Rows
             | Command::Diagnose
             | Command::Certify => Ok(self.scene.problem()?),
+            _ => unreachable!(),
+        }
+    }
+
+    /// The problem that a command would solve, with the stays at the present values; of a command that solves
+    /// nothing it is the scene's. It is refused by the causes, in their order, by which `apply` refuses the
+    /// command before it solves. It makes the problem, which nothing holds, from copies of the rows.
+    pub fn step_problem(&self, command: &Command<'_>) -> Result<Problem, Refusal>
+        ensures posed { IfOk result (Poses self.now (view command.now)) }
+        ensures refused { Refusing (Tried self.now (view command.now) NoEnd NoOther) self.now result }
+    {
+        match self.draft(command)? {
+            Some(draft) => Ok(self.pose(draft)?),
+            None => self.plain_problem(command),
         }
     }
 
@@ -961,33 +880,9 @@ impl Session {
         ensures refused { Refusing (MeaningStep self.old (view command.entry)) self.old result }
         ensures same { OnErr result (self.new ≡ self.old) }
     {
-        match command {
-            Command::Nothing => Ok(Reply::Silent),
-            Command::View { name, parent } => self.add_view(name, parent_or_window(parent)),
-            Command::Tree { text, start } => self.add_tree(text, start),
-            Command::Drop { name } => self.drop_view(name),
-            Command::Remove { group } => self.remove_group(group),
-            Command::Suggest {
-                view,
-                word,
-                value,
-                priority,
-            } => self.suggest(view, word, value, priority),
-            Command::Release { view, word } => self.release(view, word),
-            Command::Metric { name, value } => self.set_metric(name, value),
-            Command::Window { width, height } => self.resize(width, height),
-            Command::Constrain { group, line } => self.constrain(group, &line),
-            Command::Vfl {
-                group,
-                align,
-                format,
-            } => self.add_format(group, align, &format),
-            Command::Undo => self.take_back(),
-            Command::Budget { exchanges } => self.set_budget(exchanges),
-            Command::Frames => Ok(Reply::Frames),
-            Command::Rows => Ok(Reply::Rows),
-            Command::Certify => self.certify(),
-            Command::Diagnose => self.diagnose(),
+        match self.draft(&command)? {
+            Some(draft) => self.take(draft),
+            None => self.answer(&command),
         }
     }
 

@@ -1,9 +1,9 @@
 // The rows of what is held.
-ghost use Rattle.std.specs.Prelude.{◌≡◌, ◌∷◌, ◌<◌, ◌≤◌, ◌*◌, ◌+◌, [], All, IfOk};
+ghost use Rattle.std.specs.Prelude.{◌≡◌, ◌∷◌, ◌++◌, ◌<◌, ◌≤◌, ◌*◌, ◌+◌, [], All, IfOk, OnOk};
 ghost use Rattle.problem_core.specs.declared.parts.Rel.TheVariants as rel;
 ghost use Rattle.problem_core.specs.declared.limits.TheConstants.{NUMBER_LIMIT};
 ghost use Rattle.problem_core.specs.Kept.{IsNumber, IsRow};
-ghost use Rattle.problem_core.specs.Window.{required_row, structural_rows};
+ghost use Rattle.problem_core.specs.Window.{required_row, structural_rows, zero_fraction};
 ghost use Rattle.view_tree.specs.declared.limits.TheConstants.{ID_LIMIT};
 ghost use Rattle.held_items.specs.declared.row_numbers.TheConstants.{VIEW_ROWS};
 ghost use Rattle.held_items.specs.Items.{rows_of_views, size_rows};
@@ -33,6 +33,25 @@ fn required(alloc: Global, id: u32, attr: u32, rel: Rel, constant: Frac) -> Resu
     Ok(row)
 }
 
+// Appends the required row of one attribute, once, with the constant 0.
+fn push_required(
+    alloc: Global,
+    rows: &mut Vec<Row>,
+    id: u32,
+    attr: u32,
+    rel: Rel,
+) -> Result<(), OutOfMemory>
+    requires id { IsNumber id }
+    requires attr { IsNumber attr }
+    ensures row { OnOk result
+        (rows.new.items ≡ rows.old.items ++ required_row id attr rel zero_fraction ∷ []) }
+    ensures each { OnOk result (All IsRow rows.old.items → All IsRow rows.new.items) }
+{
+    let row = required(alloc, id, attr, rel, Frac::zero())?;
+    rows.push(row)?;
+    Ok(())
+}
+
 // A list of two rows.
 fn pair(alloc: Global, one: Row, other: Row) -> Result<Vec<Row>, OutOfMemory>
     ensures { IfOk result (λ rows. rows.items ≡ one ∷ other ∷ []) }
@@ -50,10 +69,10 @@ pub fn structural_rows(alloc: Global) -> Result<Vec<Row>, OutOfMemory>
 {
     let attrs = ViewId(0).attributes();
     let mut rows = Vec::new(alloc);
-    rows.push(required(alloc, LEFT_ROW, attrs.left, Rel::Eq, Frac::zero())?)?;
-    rows.push(required(alloc, TOP_ROW, attrs.top, Rel::Eq, Frac::zero())?)?;
-    rows.push(required(alloc, WIDTH_ROW, attrs.width, Rel::Ge, Frac::zero())?)?;
-    rows.push(required(alloc, HEIGHT_ROW, attrs.height, Rel::Ge, Frac::zero())?)?;
+    push_required(alloc, &mut rows, LEFT_ROW, attrs.left, Rel::Eq)?;
+    push_required(alloc, &mut rows, TOP_ROW, attrs.top, Rel::Eq)?;
+    push_required(alloc, &mut rows, WIDTH_ROW, attrs.width, Rel::Ge)?;
+    push_required(alloc, &mut rows, HEIGHT_ROW, attrs.height, Rel::Ge)?;
     Ok(rows)
 }
 
@@ -76,10 +95,8 @@ pub fn view_rows(
     let mut left = count;
     while left > 0 {
         let attrs = ViewId(next).attributes();
-        let width = required(alloc, row, attrs.width, Rel::Ge, Frac::zero())?;
-        let height = required(alloc, row + 1, attrs.height, Rel::Ge, Frac::zero())?;
-        rows.push(width)?;
-        rows.push(height)?;
+        push_required(alloc, &mut rows, row, attrs.width, Rel::Ge)?;
+        push_required(alloc, &mut rows, row + 1, attrs.height, Rel::Ge)?;
         row += VIEW_ROWS;
         next += 1;
         left -= 1;

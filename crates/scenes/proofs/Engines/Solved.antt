@@ -14,7 +14,7 @@ use Rattle.cert_core.specs.Paths.{Path}
 use Rattle.cert_core.specs.declared.stops.RunStop.{RunStop}
 use Rattle.cert_core.specs.declared.stops.RunStop.TheVariants as run
 use Rattle.cert_core.specs.Claims.{times_of}
-use Rattle.layout_solver.specs.Begins.{Start, IsRunFrom, IsStopFrom}
+use Rattle.layout_solver.specs.Begins.{Start, IsStopFrom}
 use Rattle.layout_solver.specs.declared.engine.Change.{Change}
 use Rattle.layout_solver.specs.Layouts.{Layout, AreBest, IsKeptLayout, stays_at, zeros, with_added}
 use Rattle.layout_solver.specs.Shifts.{shifted, with_shifts}
@@ -22,7 +22,7 @@ use Rattle.diagnosis.specs.Probes.{NoConflict}
 use Rattle.held_items.specs.Items.{Item, Size, AreRows, rows_of_views, view_items, has_size, resized, size_of}
 use Rattle.problem_core.specs.Unfit.{without_constant}
 use Rattle.scenes.specs.Scene.{Scene, moved, AreDraftRows, with_window}
-use Rattle.scenes.specs.Steps.{IsProblemOf, IsSolved, IsStart, IsStopped}
+use Rattle.scenes.specs.Steps.{IsProblemOf, IsSolved, IsStart, IsStopped, LeadsTo}
 use Rattle.scenes.specs.Steps.{RunStopsAt, from_corner, from_shifts}
 use Rattle.scenes.specs.Drafts.{views_draft, metrics_draft}
 use Rattle.held_items.specs.Attributes.{IsCounted, attributes_from}
@@ -32,7 +32,7 @@ use Rattle.held_items.proofs.HeldRows.ItemRows.{all-resized-IsItem, all-resized-
 use Rattle.held_items.proofs.Views.ViewRows.{all-items, all-names, rows-come, rows-join}
 use Rattle.scenes.proofs.Engines.Moves.{moved-is, moved-still, moved-added}
 use Rattle.scenes.proofs.Views.NewViews.{views-possible}
-use Rattle.scenes.proofs.Engines.Reached.{reached, settled}
+use Rattle.scenes.proofs.Engines.Reached.{settled}
 use Rattle.held_items.proofs.Constants.Resized.{shifted-size, some-held, to_size}
 use Rattle.layout_solver.proofs.Shifts.Constants.{shifted-alike}
 use Rattle.scenes.proofs.Engines.Wholes.{IsSettled}
@@ -41,21 +41,21 @@ use Rattle.scenes.proofs.Removals.LeavingScenes.{parts, rows_is, stays_is}
 -- the draft with the engine's rows and values
 pub solved-at : (scene draft : Scene) (held : List Item) (next : ℕ) (l : Layout) (start : Start) (budget : ℕ)
     → held ≡ draft.held → next ≡ draft.next_row → l.problem.stays ≡ draft.stays → AreDraftRows draft l.problem.rows
-    → AreBest l.problem l.values → IsStart scene l.problem.rows start
-    → (path : Path) × IsRunFrom start l.problem budget path l.values
+    → AreBest l.problem l.values → IsStart scene l.problem.rows start → LeadsTo start l budget
     → (path : Path) × IsSolved scene draft budget path (parts draft held next l)
-solved-at scene draft held next l start budget held_is next_is stays_is are best begins run = (
-  run.0,
+solved-at scene draft held next l start budget held_is next_is stays_is are best begins leads = (
+  leads.path,
   record {
     becomes = record {
       same = ap₂ (λ (hs : List Item) (ss : List Stay). parts draft hs next (record l { problem = record { rows = l.problem.rows; stays = ss } })) held_is stays_is
           ∙ ap (λ (n : ℕ). parts draft draft.held n (record l { problem = record { rows = l.problem.rows; stays = draft.stays } })) next_is;
       rows = are;
       best = best;
+      reached = leads.reached;
     };
     start = start;
     begins = begins;
-    run = run.1;
+    run = leads.run;
   },
 )
 
@@ -87,17 +87,17 @@ module _ (tree : ViewTree) (ms : MetricList) (held : List Item) (next : ℕ) (l 
 
   -- more rows join at the kept corner
   pub kept-start : (rows more : List Row) → rows ≡ l.problem.rows ++ more → IsStart (scene_at tree ms held next l) rows (from_corner l more)
-  kept-start rows more e = record { before = refl; kept = reached l sound; way = inl (record { primal = refl; parts = e }) }
+  kept-start rows more e = record { before = refl; kept = refl; way = inl (record { primal = refl; parts = e }) }
 
   -- constants change at the kept corner
   pub shift-start : (rows : List Row) (to : List Change) → rows ≡ shifted to l.problem.rows → IsStart (scene_at tree ms held next l) rows (from_shifts l)
-  shift-start rows to e = record { before = refl; kept = reached l sound; way = inr (record { dual = refl; none = refl; alike = ap (map without_constant) e ∙ shifted-alike to l.problem.rows }) }
+  shift-start rows to e = record { before = refl; kept = refl; way = inr (record { dual = refl; none = refl; alike = ap (map without_constant) e ∙ shifted-alike to l.problem.rows }) }
 
   abbrev Run : List Row → Layout → ℕ → Type 0
-  Run more new budget = (path : Path) × IsRunFrom (from_corner l more) new.problem budget path new.values
+  Run more new budget = LeadsTo (from_corner l more) new budget
 
   abbrev RunShifts : Layout → ℕ → Type 0
-  RunShifts new budget = (path : Path) × IsRunFrom (from_shifts l) new.problem budget path new.values
+  RunShifts new budget = LeadsTo (from_shifts l) new budget
 
   abbrev Solved : Scene → ℕ → Scene → Type 0
   Solved draft budget new = (path : Path) × IsSolved (scene_at tree ms held next l) draft budget path new

@@ -3,6 +3,7 @@ use Rattle.std.proofs.Common.{◌≡◌, ◌≢◌, inl, inr, Some, ℕ, ◌^◌
 use Rattle.frac_core.specs.Fraction.{Fraction}
 use Rattle.std.proofs.lemmas.List.Elements.{All-filter, All-from_recursion, All-map, All-weaker, recursion_from_All}
 use Rattle.std.specs.List.{Any, Contains, list_any, AllByRecursion as Each}
+use Rattle.problem_core.specs.declared.parts.Mark.{Mark}
 use Rattle.problem_core.specs.declared.parts.Stay.{Stay}
 use Rattle.problem_core.specs.Layout.{Row, Problem}
 use Rattle.view_tree.specs.Views.{IsTree, LiveView, ViewTree}
@@ -28,30 +29,28 @@ use Rattle.held_items.proofs.Removals.LeavingRows.{agree, keeps, rows-stay, up-p
 use Rattle.scenes.proofs.Removals.LeavingViews.{attributes-up, gone-up, have-stays, left-attributes, names-none, rows-covered}
 use Rattle.scenes.proofs.Engines.Moves.{moved-is}
 use Rattle.held_items.proofs.HeldRows.Ranks.{HasRank}
-use Rattle.scenes.proofs.Engines.Reached.{reached, settled}
+use Rattle.scenes.proofs.Engines.Reached.{settled}
 use Rattle.scenes.proofs.Engines.Wholes.{IsSettled}
 use Rattle.corner.proofs.Corners.NewCorners.{made_problem}
 
 abbrev pub parts : Scene → List Item → ℕ → Layout → Scene
-parts draft held next l = record draft { held = held; next_row = next; rows = l.problem.rows; stays = l.problem.stays; values = l.values }
+parts draft held next l = record draft { held = held; next_row = next; rows = l.problem.rows; stays = l.problem.stays; values = l.values; corner = l.corner }
 
 pub left-at : (scene draft : Scene) (held : List Item) (next : ℕ) (old new : Layout) (l : Leaving) (budget : ℕ)
     → held ≡ draft.held → next ≡ draft.next_row → new.problem.stays ≡ draft.stays → AreDraftRows draft new.problem.rows
-    → AreBest new.problem new.values → IsLeaving scene draft new.problem.rows old.corner l → stood old ≡ stood_of scene → HasRun old new l budget
+    → AreBest new.problem new.values → IsLeaving scene draft new.problem.rows l → stood old ≡ stood_of scene → old.corner ≡ scene.corner → HasRun old new l budget
     → HasLeft scene draft budget (parts draft held next new)
-left-at scene draft held next old new l budget held_is next_is stays_is are best leaves stands run = record {
+left-at scene draft held next old new l budget held_is next_is stays_is are best leaves stands kept run = record {
   becomes = record {
     same = ap₂ (λ (hs : List Item) (ss : List Stay). parts draft hs next (record new { problem = record { rows = new.problem.rows; stays = ss } })) held_is stays_is
         ∙ ap (λ (n : ℕ). parts draft draft.held n (record new { problem = record { rows = new.problem.rows; stays = draft.stays } })) next_is;
     rows = are;
     best = best;
+    reached = run.reached;
   };
-  kept = old.corner;
   leaving = l;
   leaves = leaves;
-  last = run.last;
-  run = subst (λ (p : Problem). HasRemoved p old.corner l budget run.last) stands run.run;
-  reached = run.reached;
+  run = subst (λ (at : List Mark). HasRemoved (stood_of scene) at l budget new.corner) kept (subst (λ (p : Problem). HasRemoved p old.corner l budget new.corner) stands run.run);
 }
 
 -- what stops the removal stops the draft
@@ -61,16 +60,15 @@ over-stops scene draft budget (removal.Spent path) h = h
 over-stops scene draft budget removal.OutOfMemory h = tt
 
 pub left-stops : (scene draft : Scene) (rows : List Row) (old : Layout) (l : Leaving) (budget : ℕ) (s : RemoveStop)
-    → AreDraftRows draft rows → IsLeaving scene draft rows old.corner l → stood old ≡ stood_of scene → IsRemoveStop (stood old) old.corner l budget s
+    → AreDraftRows draft rows → IsLeaving scene draft rows l → stood old ≡ stood_of scene → old.corner ≡ scene.corner → IsRemoveStop (stood old) old.corner l budget s
     → LeaveStopsAt scene draft budget s
-left-stops scene draft rows old l budget s are leaves stands stops =
+left-stops scene draft rows old l budget s are leaves stands kept stops =
     over-stops scene draft budget s (record {
       rows = rows;
       are = are;
-      kept = old.corner;
       leaving = l;
       leaves = leaves;
-      stops = subst (λ (p : Problem). IsRemoveStop p old.corner l budget s) stands stops;
+      stops = subst (λ (at : List Mark). IsRemoveStop (stood_of scene) at l budget s) kept (subst (λ (p : Problem). IsRemoveStop p old.corner l budget s) stands stops);
     })
 
 pub rows_is : (p q : Problem) → p ≡ q → p.rows ≡ q.rows
@@ -110,9 +108,8 @@ module _ (tree : ViewTree) (ms : MetricList) (held : List Item) (next : ℕ) (l 
     group-problem = without-is group_leaving (stood l) ∙ ap (made_problem (filter (keeps (numbers_of goes held)) l.problem.rows)) (no-stays-leave (stays_at l.values) ∙ sym moves)
 
     group-leaves : (rows : List Row) → rows ≡ filter (keeps (numbers_of goes held)) l.problem.rows
-        → IsLeaving (scene_at tree ms held next l) (without_items (scene_at tree ms held next l) goes) rows l.corner group_leaving
+        → IsLeaving (scene_at tree ms held next l) (without_items (scene_at tree ms held next l) goes) rows group_leaving
     group-leaves rows rows_are = record {
-      reached = reached l sound;
       can = rows-can goes ms held (stood_of (scene_at tree ms held next l)) kept.are_rows is.whole.rising;
       rising = up-pairs (numbers_of goes held) (numbers-up goes ms held l.problem kept.are_rows is.whole.rising);
       left = ap₂ made_problem rows_are (sym (no-stays-leave (moved l.problem.stays l.values))) ∙ sym (without-is group_leaving (stood_of (scene_at tree ms held next l)));
@@ -125,7 +122,7 @@ module _ (tree : ViewTree) (ms : MetricList) (held : List Item) (next : ℕ) (l 
         → LeaveStopsAt (scene_at tree ms held next l) (without_items (scene_at tree ms held next l) goes) budget s
     group-stops budget s stops =
         left-stops (scene_at tree ms held next l) (without_items (scene_at tree ms held next l) goes) (filter (keeps (numbers_of goes held)) l.problem.rows) l group_leaving budget s
-        group-rows (group-leaves (filter (keeps (numbers_of goes held)) l.problem.rows) refl) stands stops
+        group-rows (group-leaves (filter (keeps (numbers_of goes held)) l.problem.rows) refl) stands refl stops
 
     module _ (items : List Item) (new : Layout) (done : new.problem ≡ with_removed l group_leaving) (items_are : items ≡ staying goes held) where
       rows_are : new.problem.rows ≡ filter (keeps (numbers_of goes held)) l.problem.rows
@@ -141,7 +138,7 @@ module _ (tree : ViewTree) (ms : MetricList) (held : List Item) (next : ℕ) (l 
           → HasLeft (scene_at tree ms held next l) (without_items (scene_at tree ms held next l) goes) budget (scene_at tree ms items next new)
       group-left budget best run =
           left-at (scene_at tree ms held next l) (without_items (scene_at tree ms held next l) goes) items next l new group_leaving budget
-          items_are refl stays_are are best (group-leaves new.problem.rows rows_are) stands run
+          items_are refl stays_are are best (group-leaves new.problem.rows rows_are) stands refl run
 
       pub group-kept : IsKept (scene_at tree ms items next new)
       group-kept =
@@ -235,9 +232,8 @@ module _ (tree : ViewTree) (ms : MetricList) (held : List Item) (next : ℕ) (l 
   views-problem = without-is views_leaving (stood l) ∙ ap (λ ss. made_problem (filter (keeps (numbers_of (goes_with gone) held)) l.problem.rows) (other_stays (attributes_in gone) ss)) (sym moves-to)
 
   views-leave : (rows : List Row) → rows ≡ filter (keeps (numbers_of (goes_with gone) held)) l.problem.rows
-      → IsLeaving (scene_at tree ms held next l) (without_views (scene_at tree ms held next l) gone) rows l.corner views_leaving
+      → IsLeaving (scene_at tree ms held next l) (without_views (scene_at tree ms held next l) gone) rows views_leaving
   views-leave rows rows_are = record {
-    reached = reached l sound;
     can = can-leave (moved l.problem.stays l.values) (moved-attrs l.problem.stays l.values ∙ kept.counted.stays);
     rising = up-pairs (numbers_of (goes_with gone) held) (numbers-up (goes_with gone) ms held l.problem kept.are_rows is-settled.whole.rising);
     left = ap (λ rs. made_problem rs (other_stays (attributes_in gone) (moved l.problem.stays l.values))) rows_are ∙ sym (without-is views_leaving (stood_of (scene_at tree ms held next l)));
@@ -253,7 +249,7 @@ module _ (tree : ViewTree) (ms : MetricList) (held : List Item) (next : ℕ) (l 
       → LeaveStopsAt (scene_at tree ms held next l) (without_views (scene_at tree ms held next l) gone) budget s
   views-stop budget s stops =
       left-stops (scene_at tree ms held next l) (without_views (scene_at tree ms held next l) gone) (filter (keeps (numbers_of (goes_with gone) held)) l.problem.rows) l views_leaving budget s
-      view-rows (views-leave (filter (keeps (numbers_of (goes_with gone) held)) l.problem.rows) refl) stands-to stops
+      view-rows (views-leave (filter (keeps (numbers_of (goes_with gone) held)) l.problem.rows) refl) stands-to refl stops
 
   module _ (items : List Item) (new : Layout) (done : new.problem ≡ with_removed l views_leaving) (items_are : items ≡ staying (goes_with gone) held) where
     new_rows : new.problem.rows ≡ filter (keeps (numbers_of (goes_with gone) held)) l.problem.rows
@@ -269,7 +265,7 @@ module _ (tree : ViewTree) (ms : MetricList) (held : List Item) (next : ℕ) (l 
         → HasLeft (scene_at tree ms held next l) (without_views (scene_at tree ms held next l) gone) budget (scene_at (drops.without tree gone) ms items next new)
     views-left budget best run =
         left-at (scene_at tree ms held next l) (without_views (scene_at tree ms held next l) gone) items next l new views_leaving budget
-        items_are refl new_stays are-rows best (views-leave new.problem.rows new_rows) stands-to run
+        items_are refl new_stays are-rows best (views-leave new.problem.rows new_rows) stands-to refl run
 
     pub views-kept : IsKept (scene_at (drops.without tree gone) ms items next new)
     views-kept =

@@ -2,13 +2,12 @@
 // mark are back, and the engine is as before.
 ghost use Rattle.std.specs.Prelude.{◌≡◌, ◌<◌, ◌∷◌, ◌++◌, length, AllPairs, IfOk, IfErr, OnOk, OnErr};
 ghost use Rattle.problem_core.specs.Kept.{IsWhole, AreRising};
-ghost use Rattle.cert_core.specs.Paths as paths;
-ghost use Rattle.layout_solver.specs.Begins.{IsRunFrom, IsStopFrom};
+ghost use Rattle.layout_solver.specs.Begins.{IsStopFrom};
 ghost use Rattle.layout_solver.specs.Layouts.{AreBest, solution_of, with_added, zeros};
 ghost use Rattle.layout_solver.specs.Removals.{CanLeave, IsRemoveStop, stood, with_removed};
 ghost use Rattle.layout_solver.specs.Shifts.{AreKept, CanShift, with_shifts};
 ghost use Rattle.version_list.specs.declared.TheConstants.{VERSION_LIMIT};
-ghost use Rattle.scenes.specs.Steps.{from_corner, from_shifts, HasRun};
+ghost use Rattle.scenes.specs.Steps.{from_corner, from_shifts, HasRun, LeadsTo};
 
 use cert_core::RunStop;
 use held_items::Item;
@@ -30,8 +29,7 @@ pub fn take_more(
     requires rising { AreRising (engine.old.values ++ zeros attrs.now) }
     ensures done { OnOk result (engine.new.problem ≡ with_added engine.old attrs.now rows.now) }
     ensures best { OnOk result (AreBest engine.new.problem engine.new.values) }
-    ensures run { IfOk result (λ _. (path : paths.Path)
-        × IsRunFrom (from_corner engine.old rows.now) engine.new.problem budget path engine.new.values) }
+    ensures run { IfOk result (λ _. LeadsTo (from_corner engine.old rows.now) engine.new budget) }
     ensures stop { IfErr result
         (IsStopFrom (from_corner engine.old rows.now) (with_added engine.old attrs.now rows.now) budget) }
     ensures earlier { OnOk result (engine.new.earlier ≡ solution_of engine.old ∷ engine.old.earlier) }
@@ -65,8 +63,7 @@ pub fn take_constants(
     requires kept { AreKept to.now }
     ensures done { OnOk result (engine.new.problem ≡ with_shifts engine.old to.now) }
     ensures best { OnOk result (AreBest engine.new.problem engine.new.values) }
-    ensures run { IfOk result (λ _. (path : paths.Path)
-        × IsRunFrom (from_shifts engine.old) engine.new.problem budget path engine.new.values) }
+    ensures run { IfOk result (λ _. LeadsTo (from_shifts engine.old) engine.new budget) }
     ensures stop { IfErr result (IsStopFrom (from_shifts engine.old) (with_shifts engine.old to.now) budget) }
     ensures earlier { OnOk result (engine.new.earlier ≡ solution_of engine.old ∷ engine.old.earlier) }
     ensures items { OnOk result (items.new ≡ items.old) }

@@ -1,5 +1,6 @@
 -- The steps of commands, whose earlier causes don't hold.
-use Rattle.std.proofs.Common.{◌≡◌, ℕ, ◌<◌, ◌≤◌, Bool, true, false, cond, nat_eq, is_some, List, [], ◌∷◌, length, Some, None, IsSome, refl, sym, ap, ◌∙◌, subst, arith, inl, inr, true≢false, eq-eqb}
+use Rattle.std.proofs.Common.{◌≡◌, ℕ, ◌<◌, ◌≤◌, ◌^◌, Bool, true, false, cond, nat_eq, is_some, List, [], ◌∷◌, length, Some, None, IsSome, refl, sym, ap, ◌∙◌, subst, arith, inl, inr, true≢false, eq-eqb}
+use Rattle.std.proofs.lemmas.Grind.{common_steps}
 use Rattle.std.specs.Prelude.{IfOk, IfErr}
 use Rattle.std.specs.declared.option.Option.{Option}
 use Rattle.std.specs.declared.result.Result.{Result}
@@ -23,10 +24,11 @@ use Rattle.session_undo.specs.declared.reply.Refusal.{Refusal}
 use Rattle.session_undo.specs.Replies.{Reply, Unknown, Taken, Limit, MayRefuse}
 use Rattle.scenes.specs.Scene.{Scene, AreDraftRows, with_window, metrics_with}
 use Rattle.session_undo.specs.State.{State}
-use Rattle.session_undo.specs.Machine.{IsTaken, IsDeep, IsCrowded, AreTooMany, TriedView, TriedMetric, TriedWindow, UnlessFar, HasAllViews}
+use Rattle.session_undo.specs.Machine.{AddsView, IsDeep, IsCrowded, AreTooMany, TriedView, Unless, TriedMetric, TriedWindow, UnlessFar, HasAllViews}
 use Rattle.held_items.specs.Moving.{IsFarSize, AreNear}
 use Rattle.held_items.specs.Items.{has_size}
-use Rattle.session_undo.specs.Adding.{NoEnd, IsFreeView, IsFreeMetric}
+use Rattle.held_items.specs.declared.item.coming.NewViews.{NewViews}
+use Rattle.session_undo.specs.Adding.{NoEnd, IsFreeName, IsFreeView, IsFreeMetric, IsViewMore, UnlessUnfree, ViewStep}
 use Rattle.scenes.specs.Drafts.{views_draft, metrics_draft}
 use Rattle.session_undo.specs.Kept.{AreWithin}
 use Rattle.scenes.specs.Moving.{MayLackChanges}
@@ -81,28 +83,6 @@ unfound f g (Some x) o e h = absurd (true≢false (sym h))
 -- ---- the causes against a view
 
 module _ (old : State) (name parent : List ℕ) (End : Scene → Reply → State → Type 0) where
-  pub view-unknown : view_named old.scene.tree.views parent ≡ None → TriedView old name parent End (Unknown parent) old
-  view-unknown none = inl (none, refl, refl)
-
-  -- there is such a view
-  abbrev pub IsFound : Type 0
-  IsFound = view_named old.scene.tree.views parent ≡ None → ⊥
-
-  pub view-taken : IsFound → IsTaken old.scene name → TriedView old name parent End (Taken name) old
-  view-taken found taken = inr (found, inl (taken, refl, refl))
-
-  pub view-long : IsFound → (IsTaken old.scene name → ⊥) → 64 < length name → TriedView old name parent End (Limit word.Name) old
-  view-long found free long = inr (found, inr (free, inl (long, refl, refl)))
-
-  pub view-many : IsFound → (IsTaken old.scene name → ⊥) → length name ≤ 64 → HasAllViews old → TriedView old name parent End (Limit word.Views) old
-  view-many found free short many = inr (found, inr (free, inr ((λ long. omega (arith, short, long)), inl (many, refl, refl))))
-
-  pub view-deep : IsFound → (IsTaken old.scene name → ⊥) → length name ≤ 64 → (HasAllViews old → ⊥) → IsDeep old.scene.tree parent → TriedView old name parent End (Limit word.Depth) old
-  view-deep found free short few deep = inr (found, inr (free, inr ((λ long. omega (arith, short, long)), inr (few, inl (deep, refl, refl)))))
-
-  pub view-crowded : IsFound → (IsTaken old.scene name → ⊥) → length name ≤ 64 → (HasAllViews old → ⊥) → (IsDeep old.scene.tree parent → ⊥) → IsCrowded old 2 → TriedView old name parent End (Limit word.Rows) old
-  view-crowded found free short few high crowded = inr (found, inr (free, inr ((λ long. omega (arith, short, long)), inr (few, inr (high, inl (crowded, refl, refl))))))
-
   pub view-passed : (t : ViewTree) (id : ℕ) (reply : Reply) (new : State) → IsFreeView old name parent t id → End (views_draft old.scene t id 1) reply new → TriedView old name parent End reply new
   view-passed t id reply new is end =
       inr (
@@ -145,44 +125,82 @@ few-views : (s : State) → length s.scene.tree.views < s.limits.views → is_fu
 few-views s less h (inl many) = omega (arith, less, many)
 few-views s less h (inr last) = omega (arith, (room s.scene.tree h).1, last)
 
+-- where there are fewer views than there may be, it is a number that is wanting
+no-number : (t : ViewTree) → is_full t ≡ true → length t.views < 200 → 2 ^ 29 ≤ t.next
+no-number t full few = grind (arith, common_steps, full, few)
+
 -- what is known of a view's name when the tree is asked
 pub record IsAsked (old : State) (name parent : List ℕ) (above : ℕ) : Type 0 where
   pub found : Some above ≡ option_map (λ v. v.id) (view_named old.scene.tree.views parent)
-  pub free : IsTaken old.scene name → ⊥
-  pub short : length name ≤ 64
-  pub few : length old.scene.tree.views < old.limits.views
+  pub named : IsFreeName old name
   pub within : AreWithin old.limits
 
-asked-found : (old : State) (name parent : List ℕ) (above : ℕ) → IsAsked old name parent above → view_named old.scene.tree.views parent ≡ None → ⊥
-asked-found old name parent above asked =
-    let v = view-found (view_named old.scene.tree.views parent) above asked.found in
-    not-none (view_named old.scene.tree.views parent) v.0 v.1
+asked-found : (t : ViewTree) (parent : List ℕ) (above : ℕ) → Some above ≡ option_map (λ v. v.id) (view_named t.views parent) → view_named t.views parent ≡ None → ⊥
+asked-found t parent above found =
+    let v = view-found (view_named t.views parent) above found in
+    not-none (view_named t.views parent) v.0 v.1
+
+-- the view in which it is to stand has this depth
+asked-depth : (t : ViewTree) (parent : List ℕ) (above depth : ℕ) → Some above ≡ option_map (λ v. v.id) (view_named t.views parent) → IsAtDepth t.views above depth
+    → (v : LiveView) × (view_named t.views parent ≡ Some v) × IsAtDepth t.views v.id depth
+asked-depth t parent above depth found on =
+    let v = view-found (view_named t.views parent) above found in
+    (v.0, v.1, subst (λ (n : ℕ). IsAtDepth t.views n depth) (sym v.2) on)
 
 asked-high : (old : State) (name parent : List ℕ) (above : ℕ) → IsAsked old name parent above → IsNewView old.scene.tree name above → IsDeep old.scene.tree parent → ⊥
 asked-high old name parent above asked fresh =
-    let v = view-found (view_named old.scene.tree.views parent) above asked.found in
-    let on = subst (λ (n : ℕ). (depth : ℕ) × IsAtDepth old.scene.tree.views n depth × (depth < 32)) (sym v.2) fresh.high in
-    not-deep old.scene.tree parent v.0 on.0 v.1 on.1 on.2
+    let v = asked-depth old.scene.tree parent above fresh.high.0 asked.found fresh.high.1 in
+    not-deep old.scene.tree parent v.0 fresh.high.0 v.1 v.2 fresh.high.2
 
-pub view-full : (old : State) (name parent : List ℕ) (above : ℕ) (End : Scene → Reply → State → Type 0) → IsAsked old name parent above → IsNewView old.scene.tree name above → IsCrowded old 2
-    → TriedView old name parent End (Limit word.Rows) old
-view-full old name parent above End asked fresh crowded =
-    view-crowded old name parent End (asked-found old name parent above asked) asked.free asked.short (few-views old asked.few fresh.room) (asked-high old name parent above asked fresh) crowded
+-- no view may have the name
+pub view-unfree : (old : State) (name parent : List ℕ) (above : ℕ) (End : Scene → Reply → State → Type 0) (reply : Reply) (new : State) → Some above ≡ option_map (λ v. v.id) (view_named old.scene.tree.views parent)
+    → UnlessUnfree old name (λ reply new. ⊥) reply new → TriedView old name parent End reply new
+view-unfree old name parent above End reply new found (inl h) = inr (asked-found old.scene.tree parent above found, inl h)
+view-unfree old name parent above End reply new found (inr (a, inl h)) = inr (asked-found old.scene.tree parent above found, inr (a, inl h))
+view-unfree old name parent above End reply new found (inr (a, inr (b, inl h))) = inr (asked-found old.scene.tree parent above found, inr (a, inr (b, inl h)))
+view-unfree old name parent above End reply new found (inr (a, inr (b, inr (c, never)))) = absurd never
 
-pub view-free : (old : State) (name parent : List ℕ) (above id : ℕ) (new : ViewTree) → IsAsked old name parent above → IsNewView old.scene.tree name above → (IsCrowded old 2 → ⊥) → new ≡ tree.with_view old.scene.tree name above
-    → id ≡ old.scene.tree.next → IsFreeView old name parent new id
-view-free old name parent above id new asked fresh room new_is id_is =
+module _ (old : State) (name parent : List ℕ) (above : ℕ) (End : Scene → Reply → State → Type 0) (asked : IsAsked old name parent above) where
+  found-named : (reply : Reply) (new : State) → Unless (HasAllViews old) (Limit word.Views) old (Unless (IsDeep old.scene.tree parent) (Limit word.Depth) old (Unless (IsCrowded old 2) (Limit word.Rows) old (AddsView old name parent End))) reply new
+      → TriedView old name parent End reply new
+  found-named reply new rest = inr (asked-found old.scene.tree parent above asked.found, inr (asked.named.free, inr ((λ long. omega (arith, asked.named.short, long)), rest)))
+
+  -- the tree tells a limit
+  pub view-limited : (reply : Reply) (new : State) → ViewStep old name above reply new → TriedView old name parent End reply new
+  view-limited reply new (word.Name, (live, free, long), keeps) = absurd (omega (arith, asked.named.short, long))
+  view-limited reply new (word.Views, (live, free, (short, full)), keeps) =
+      found-named reply new (inl (inr (no-number old.scene.tree full (omega (arith, asked.named.few, asked.within.views))), keeps))
+  view-limited reply new (word.Depth, (live, free, (short, room, (depth, on, deep))), keeps) =
+      let v = asked-depth old.scene.tree parent above depth asked.found on in
+      found-named reply new (inr (few-views old asked.named.few room, inl ((v.0, depth, v.1, v.2, deep), keeps)))
+  view-limited reply new (word.Line, (live, free, never), keeps) = absurd never
+  view-limited reply new (word.Metrics, (live, free, never), keeps) = absurd never
+  view-limited reply new (word.Lines, (live, free, never), keeps) = absurd never
+  view-limited reply new (word.Rows, (live, free, never), keeps) = absurd never
+  view-limited reply new (word.Terms, (live, free, never), keeps) = absurd never
+  view-limited reply new (word.Attributes, (live, free, never), keeps) = absurd never
+  view-limited reply new (word.Coefficient, (live, free, never), keeps) = absurd never
+  view-limited reply new (word.Constant, (live, free, never), keeps) = absurd never
+  view-limited reply new (word.Budget, (live, free, never), keeps) = absurd never
+
+  -- there is no room for the rows
+  pub view-full : (new : NewViews) → IsViewMore old.scene name above new → IsCrowded old 2 → TriedView old name parent End (Limit word.Rows) old
+  view-full new more crowded =
+      found-named (Limit word.Rows) old (inr (few-views old asked.named.few more.fresh.room, inr (asked-high old name parent above asked more.fresh, inl (crowded, refl, refl))))
+
+pub view-free : (old : State) (name parent : List ℕ) (above : ℕ) (new : NewViews) → IsAsked old name parent above → IsViewMore old.scene name above new → (IsCrowded old 2 → ⊥) → IsFreeView old name parent new.tree new.first_view.0
+view-free old name parent above new asked more room =
     let v = view-found (view_named old.scene.tree.views parent) above asked.found in
     record {
       above = v.0;
       found = v.1;
-      free = asked.free;
-      short = asked.short;
-      room = few-views old asked.few fresh.room;
-      high = asked-high old name parent above asked fresh;
+      free = asked.named.free;
+      short = asked.named.short;
+      room = few-views old asked.named.few more.fresh.room;
+      high = asked-high old name parent above asked more.fresh;
       rows = room;
-      tree_is = new_is ∙ ap (λ (n : ℕ). tree.with_view old.scene.tree name n) (sym v.2);
-      id_is = id_is;
+      tree_is = more.tree_is ∙ ap (λ (n : ℕ). tree.with_view old.scene.tree name n) (sym v.2);
+      id_is = more.id_is;
     }
 
 -- ---- metrics

@@ -1,16 +1,14 @@
-use Rattle.std.proofs.Common.{◌≡◌, ◌+◌, List, ℕ, length, ap, arith, rules}
+use Rattle.std.proofs.Common.{◌≡◌, ◌+◌, List, ℕ, length, ap, arith, refl, rules}
 use Rattle.std.specs.Str.Lines.{lines}
 use Rattle.span_text.specs.TextCuts.Lines.{lines_left}
 use Rattle.problem_reading.proofs.Problems.Readings.{lines_count}
-use Rattle.session_undo.specs.State.{first_state}
 use Rattle.layout_cli.proofs.Made.{refuses_begin, refuses_more, refuses_end}
 use Rattle.layout_cli.proofs.making.answer_lines.Goals as goal
 
 pub loop-line-init : goal.loop-line-init
 loop-line-init c =
     let all : lines_left c.into_iter-line-iterator.result ≡ lines c.args.script.now = search rules in
-    let begun : c.in_ok-session.session ≡ first_state = search rules in
-    (tt, tt, omega (arith, ap (λ (xs : List (List ℕ)). length xs) all), omega arith, refuses_begin first_state c.in_ok-session.session _ _ begun all)
+    (tt, tt, omega (arith, ap (λ (xs : List (List ℕ)). length xs) all), omega arith, refuses_begin c.args.session.now c.args.session.now _ _ refl all)
 
 pub overflow_add-count : goal.overflow_add-count
 overflow_add-count c =

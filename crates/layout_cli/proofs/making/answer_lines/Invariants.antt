@@ -1,7 +1,7 @@
 use Rattle.std.proofs.Common.{◌≡◌, ◌+◌, ◌≤◌, ℕ, length}
 use Rattle.std.specs.Str.Lines.{lines}
 use Rattle.span_text.specs.TextCuts.Lines.{lines_left}
-use Rattle.session_undo.specs.State.{State, first_state}
+use Rattle.session_undo.specs.State.{State}
 use Rattle.layout_cli.specs.Making.{Refuses}
 use Rattle.layout_cli.proofs.making.answer_lines.Given as goal
 
@@ -12,4 +12,4 @@ invariant-loop-line l =
     × (l.count + length (lines_left l.line-iterator) ≡ length (lines l.script))
     × (l.refused ≤ l.count)
     × ((rest : ℕ) (last : State) → Refuses l.session (lines_left l.line-iterator) rest last
-    → Refuses first_state (lines l.script) (l.refused + rest) last)
+    → Refuses l.fn.session (lines l.script) (l.refused + rest) last)

@@ -25,7 +25,7 @@ returns-clause-found c =
 pub returns-clause-stop : goal.returns-clause-stop
 returns-clause-stop c =
     rw (← c.self.view_is)
-    (stop-scene c.self.inside.tree c.self.inside.metrics (items_of c.self.inside.items.items) c.self.inside.next_row c.self.inside.engine c.args.budget c.diagnose.result c.show_layout.ensures.layout c.diagnose.ensures.stop)
+    (stop-scene c.self.inside.tree c.self.inside.metrics (items_of c.self.inside.items.items) c.self.inside.next_row c.self.inside.engine c.args.budget c.diagnose.result c.diagnose.ensures.stop)
 
 pub returns-clause-same : goal.returns-clause-same
 returns-clause-same c =

@@ -1,0 +1,25 @@
+use Rattle.script_text.specs.View.{linear_view}
+use Rattle.span_text.specs.Objects.{object_view}
+use Rattle.vfl_text.specs.View.{meaning}
+use Rattle.session_undo.proofs.Commands.Drafts.{constraint-draft, format-draft, metric-draft, suggest-draft, window-draft}
+use Rattle.session_undo.proofs.session.Session.update_draft.Goals as goal
+
+pub returns-in_ok-new-in-Metric-clause-made : goal.returns-in_ok-new-in-Metric-clause-made
+returns-in_ok-new-in-Metric-clause-made c =
+    rw c.in-Metric.is (metric-draft c.args.self.now c.in-Metric.name.now c.in-Metric.value c.in_ok-new-in-Metric.new c.in_ok-new-in-Metric.ensures.made)
+
+pub returns-in-Window-clause-made : goal.returns-in-Window-clause-made
+returns-in-Window-clause-made c =
+    rw c.in-Window.is (window-draft c.args.self.now c.show_limits.ensures c.in-Window.width c.in-Window.height c.in_ok-size.size c.in_ok-size.ensures.is c.in_ok-size.ensures.made)
+
+pub returns-in_ok-new-in-Constrain-clause-made : goal.returns-in_ok-new-in-Constrain-clause-made
+returns-in_ok-new-in-Constrain-clause-made c =
+    rw c.in-Constrain.is (constraint-draft c.args.self.now c.show_limits.ensures c.in-Constrain.group.now (linear_view c.in-Constrain.line) c.in_ok-new-in-Constrain.new c.in_ok-new-in-Constrain.ensures.is c.in_ok-new-in-Constrain.ensures.made)
+
+pub returns-in_ok-new-in-Vfl-clause-made : goal.returns-in_ok-new-in-Vfl-clause-made
+returns-in_ok-new-in-Vfl-clause-made c =
+    rw c.in-Vfl.is (format-draft c.args.self.now c.show_limits.ensures c.in-Vfl.group.now c.in-Vfl.align (meaning c.in-Vfl.format) c.in_ok-new-in-Vfl.new c.in_ok-new-in-Vfl.ensures.is c.in_ok-new-in-Vfl.ensures.made)
+
+pub returns-in_ok-new-in-Suggest-clause-made : goal.returns-in_ok-new-in-Suggest-clause-made
+returns-in_ok-new-in-Suggest-clause-made c =
+    rw c.in-Suggest.is (suggest-draft c.args.self.now c.show_limits.ensures c.in-Suggest.view.now c.in-Suggest.word c.in-Suggest.value (object_view c.in-Suggest.priority) c.in_ok-new-in-Suggest.new c.in_ok-new-in-Suggest.ensures.made)
