@@ -75,6 +75,23 @@ fn put_summary(text: &mut String, lines: u64, refused: u64, rows: u64) -> Result
     Ok(())
 }
 
+// The line that sums up what was answered, where so many rows are held.
+fn summary_of(alloc: Global, end: Counts, rows: u64) -> Result<Vec<u8>, OutOfMemory>
+    ensures { IfOk result (λ text. text.items ≡ summary_line end.lines end.refused rows) }
+{
+    let mut text = String::new(alloc);
+    put_summary(&mut text, end.lines, end.refused, rows)?;
+    Ok(text.into_bytes())
+}
+
+// Appends the line of the frame of a session's last view.
+fn push_last(text: &mut Vec<u8>, session: &Session) -> Result<(), OutOfMemory>
+    ensures { IfOk result (λ _. text.new.items ≡ text.old.items ++ last_line session.now.scene) }
+{
+    let scene = session.state();
+    push_at(text, scene, scene.tree().len().saturating_sub(1))
+}
+
 // The two lines of what was answered.
 fn text_of(alloc: Global, session: &Session, end: Counts) -> Result<Vec<u8>, OutOfMemory>
     ensures { IfOk result (λ text. text.items
@@ -82,11 +99,8 @@ fn text_of(alloc: Global, session: &Session, end: Counts) -> Result<Vec<u8>, Out
         ++ last_line session.now.scene) }
 {
     let rows = session.engine().rows().len() as u64;
-    let mut summary = String::new(alloc);
-    put_summary(&mut summary, end.lines, end.refused, rows)?;
-    let mut text = summary.as_bytes().to_vec(alloc)?;
-    let scene = session.state();
-    push_at(&mut text, scene, scene.tree().len().saturating_sub(1))?;
+    let mut text = summary_of(alloc, end, rows)?;
+    push_last(&mut text, session)?;
     Ok(text)
 }
 

@@ -71,16 +71,22 @@ fn status(is_drawn: bool) -> ExitCode {
     }
 }
 
+// Writes the text, and says whether all of it was written.
+fn is_written(rt: &HostRuntime, text: &str) -> bool {
+    let mut sink = io::writer(rt);
+    write!(sink, "{text}").is_ok()
+}
+
 // Writes the answer to the input.
 fn answer(rt: &HostRuntime, input: &str) -> ExitCode {
     let mut text = String::new(rt.alloc());
     let Ok(is_drawn) = put_answer(rt.alloc(), &mut text, input) else {
         return ExitCode::from(5);
     };
-    let mut sink = io::writer(rt);
-    match write!(sink, "{text}") {
-        Ok(()) => status(is_drawn),
-        Err(_) => ExitCode::from(4),
+    if is_written(rt, &text) {
+        status(is_drawn)
+    } else {
+        ExitCode::from(4)
     }
 }
 

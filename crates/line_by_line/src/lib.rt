@@ -24,4 +24,6 @@ mod script;
 mod talk;
 
 pub use answerer::{AnswerStop, Answerer};
-pub use script::{INPUT_LIMIT, InputStop, Script, ScriptStop, answer_script, constants_are_as_said};
+pub use script::{
+    INPUT_LIMIT, InputStop, Script, ScriptStop, answer_script, constants_are_as_said,
+};

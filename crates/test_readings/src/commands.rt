@@ -1,0 +1,219 @@
+// Lines of a script: their readings, part by part.
+use crate::formats::{put_stop, put_written};
+use frac_core::{Frac, OutOfMemory};
+use script_text::{Align, AttrWord, Command, ExprTerm, Linear, Operand, read_line};
+use span_text::{Object, UNIT};
+use std::alloc::Global;
+use test_text::put_text;
+use vfl_text::Format;
+
+fn align_name(align: Align) -> &'static str {
+    match align {
+        Align::Left => "left",
+        Align::Right => "right",
+        Align::Top => "top",
+        Align::Bottom => "bottom",
+        Align::CenterX => "centerX",
+        Align::CenterY => "centerY",
+    }
+}
+
+fn put_fraction(out: &mut String, f: Frac) -> Result<(), OutOfMemory> {
+    let num = f.num();
+    let den = f.den();
+    Ok(write!(out, " {num}/{den}")?)
+}
+
+fn put_attr(out: &mut String, view: &str, word: AttrWord) -> Result<(), OutOfMemory> {
+    let word = word.text();
+    Ok(write!(out, " of {view}.{word}")?)
+}
+
+fn put_term(out: &mut String, term: &ExprTerm<'_>) -> Result<(), OutOfMemory> {
+    put_fraction(out, term.by)?;
+    match term.of {
+        Operand::Attr { view, word } => put_attr(out, view, word),
+        Operand::Metric { name } => Ok(write!(out, " of {name}")?),
+        Operand::One => Ok(()),
+    }
+}
+
+fn put_terms(out: &mut String, terms: &[ExprTerm<'_>]) -> Result<(), OutOfMemory> {
+    for term in terms {
+        put_term(out, term)?;
+    }
+    Ok(())
+}
+
+// Appends the priority, if one is written.
+fn put_priority(out: &mut String, priority: Option<Object<'_>>) -> Result<(), OutOfMemory> {
+    match priority {
+        None => Ok(()),
+        Some(Object::Name { text }) => Ok(write!(out, " @ {text}")?),
+        Some(Object::Number { thousandths }) => Ok(write!(out, " @ {thousandths}/{UNIT}")?),
+    }
+}
+
+// Appends the two sides of a line, and how they stand to each other.
+fn put_sides(out: &mut String, line: &Linear<'_>) -> Result<(), OutOfMemory> {
+    put_terms(out, line.left())?;
+    let rel = line.rel.word();
+    write!(out, " {rel}")?;
+    put_terms(out, line.right())
+}
+
+fn put_linear(out: &mut String, line: &Linear<'_>) -> Result<(), OutOfMemory> {
+    put_sides(out, line)?;
+    put_priority(out, line.priority)?;
+    let weight = line.weight;
+    Ok(writeln!(out, " weight {weight}")?)
+}
+
+fn put_view(out: &mut String, name: &str, parent: Option<&str>) -> Result<(), OutOfMemory> {
+    match parent {
+        Some(parent) => Ok(writeln!(out, "view {name} in {parent}")?),
+        None => Ok(writeln!(out, "view {name}")?),
+    }
+}
+
+// Appends the text of a tree, whose end is marked where it has no line's end.
+fn put_tree(out: &mut String, text: &[u8], start: usize) -> Result<(), OutOfMemory> {
+    write!(out, "tree at {start}: ")?;
+    put_text(out, text)
+}
+
+// Appends the alignment, if one is written.
+fn put_align(out: &mut String, align: Option<Align>) -> Result<(), OutOfMemory> {
+    match align {
+        Some(align) => {
+            let name = align_name(align);
+            Ok(write!(out, "align {name} ")?)
+        }
+        None => Ok(()),
+    }
+}
+
+// Appends two numbers behind a word.
+fn put_numbers(out: &mut String, word: &str, one: Frac, two: Frac) -> Result<(), OutOfMemory> {
+    write!(out, "{word}")?;
+    put_fraction(out, one)?;
+    put_fraction(out, two)?;
+    Ok(writeln!(out)?)
+}
+
+fn put_metric(out: &mut String, name: &str, value: Frac) -> Result<(), OutOfMemory> {
+    write!(out, "metric {name}")?;
+    put_fraction(out, value)?;
+    Ok(writeln!(out)?)
+}
+
+fn put_suggestion(
+    out: &mut String,
+    view: &str,
+    word: AttrWord,
+    value: Frac,
+    priority: Option<Object<'_>>,
+) -> Result<(), OutOfMemory> {
+    let word = word.text();
+    write!(out, "suggest {view}.{word}")?;
+    put_fraction(out, value)?;
+    put_priority(out, priority)?;
+    Ok(writeln!(out)?)
+}
+
+fn put_release(out: &mut String, view: &str, word: AttrWord) -> Result<(), OutOfMemory> {
+    let word = word.text();
+    Ok(writeln!(out, "release {view}.{word}")?)
+}
+
+// Appends a word and a name.
+fn put_named(out: &mut String, word: &str, name: &str) -> Result<(), OutOfMemory> {
+    Ok(writeln!(out, "{word} {name}")?)
+}
+
+fn put_budget(out: &mut String, exchanges: u64) -> Result<(), OutOfMemory> {
+    Ok(writeln!(out, "budget {exchanges}")?)
+}
+
+// Appends a format behind its group and its alignment.
+fn put_vfl(
+    alloc: Global,
+    out: &mut String,
+    group: &str,
+    align: Option<Align>,
+    format: &Format<'_>,
+) -> Result<(), OutOfMemory> {
+    write!(out, "vfl {group} ")?;
+    put_align(out, align)?;
+    put_written(alloc, out, format)
+}
+
+fn put_constraint(out: &mut String, group: &str, line: &Linear<'_>) -> Result<(), OutOfMemory> {
+    write!(out, "constrain {group}")?;
+    put_linear(out, line)
+}
+
+// The word of a command that has no other.
+fn lone_word(command: &Command<'_>) -> &'static str {
+    match command {
+        Command::Nothing => "nothing",
+        Command::Undo => "undo",
+        Command::Frames => "frames",
+        Command::Rows => "rows",
+        Command::Diagnose => "diagnose",
+        Command::Certify => "certify",
+        _ => "another",
+    }
+}
+
+fn put_lone(out: &mut String, word: &str) -> Result<(), OutOfMemory> {
+    Ok(writeln!(out, "{word}")?)
+}
+
+// Appends the reading of a line with a format or a sum, with a count, or of a word alone.
+fn put_larger(alloc: Global, out: &mut String, command: &Command<'_>) -> Result<(), OutOfMemory> {
+    match command {
+        Command::Vfl {
+            group,
+            align,
+            format,
+        } => put_vfl(alloc, out, group, *align, format),
+        Command::Constrain { group, line } => put_constraint(out, group, line),
+        Command::Budget { exchanges } => put_budget(out, *exchanges),
+        _ => put_lone(out, lone_word(command)),
+    }
+}
+
+// Appends the reading of a line about values.
+fn put_value(alloc: Global, out: &mut String, command: &Command<'_>) -> Result<(), OutOfMemory> {
+    match command {
+        Command::Metric { name, value } => put_metric(out, name, *value),
+        Command::Window { width, height } => put_numbers(out, "window", *width, *height),
+        Command::Suggest {
+            view,
+            word,
+            value,
+            priority,
+        } => put_suggestion(out, view, *word, *value, *priority),
+        Command::Release { view, word } => put_release(out, view, *word),
+        _ => put_larger(alloc, out, command),
+    }
+}
+
+fn put_command(alloc: Global, out: &mut String, command: &Command<'_>) -> Result<(), OutOfMemory> {
+    match command {
+        Command::View { name, parent } => put_view(out, name, *parent),
+        Command::Tree { text, start } => put_tree(out, text, *start),
+        Command::Drop { name } => put_named(out, "drop", name),
+        Command::Remove { group } => put_named(out, "remove", group),
+        _ => put_value(alloc, out, command),
+    }
+}
+
+/// Appends the reading of a line of a script, or where it leaves the grammar.
+pub fn put_line(alloc: Global, out: &mut String, line: &[u8]) -> Result<(), OutOfMemory> {
+    match read_line(alloc, line) {
+        Ok(command) => put_command(alloc, out, &command),
+        Err(stop) => put_stop(out, stop),
+    }
+}
