@@ -6,11 +6,11 @@ use Rattle.session_undo.specs.State.{State}
 use Rattle.layout_cli.specs.Machine.{Answers}
 
 -- the line gets a reply, which was written, and leads to the new session
-abbrev pub IsTold : State → List ℕ → State → (before now : Option (List ℕ)) → Bool → Type 0
-IsTold old line new before now good = (text : List ℕ) × Answers old line text good new
+abbrev pub IsReplied : State → List ℕ → State → (before now : Option (List ℕ)) → Bool → Type 0
+IsReplied old line new before now good = (text : List ℕ) × Answers old line text good new
     × Appends before now text
 
 -- the line gets a reply, of which a front was written
-abbrev pub IsToldInPart : State → List ℕ → (before now : Option (List ℕ)) → Type 0
-IsToldInPart old line before now = (text : List ℕ) × (good : Bool) × (mid : State)
+abbrev pub IsRepliedInPart : State → List ℕ → (before now : Option (List ℕ)) → Type 0
+IsRepliedInPart old line before now = (text : List ℕ) × (good : Bool) × (mid : State)
     × Answers old line text good mid × HasFront before now text

@@ -6,7 +6,7 @@ ghost use Rattle.frac_core.specs.declared.memory.Stop.TheVariants.{OutOfMemory a
 ghost use Rattle.line_by_line.specs.Answers.{HasStopCause, sink_failed};
 ghost use Rattle.layout_cli.specs.Machine.{Step};
 ghost use Rattle.reply_texts.specs.Replies.{text_of};
-ghost use Rattle.layout_cli.specs.Told.{IsTold, IsToldInPart};
+ghost use Rattle.layout_cli.specs.Told.{IsReplied, IsRepliedInPart};
 ghost use Rattle.reply_texts.specs.declared.reply.TheConstants.{OK_LENGTH};
 ghost use Rattle.session_undo.specs.Replies.{accepted, IsChange, MayRefuse, Tells};
 ghost use Rattle.session_undo.specs.Replies as reply;
@@ -72,9 +72,9 @@ pub(crate) fn answer<K: Sink>(
     sink: &mut K,
 ) -> Result<bool, AnswerStop>
     ensures told { IfOk result
-        (IsTold session.old line.now session.new (K.held sink.old) (K.held sink.new)) }
+        (IsReplied session.old line.now session.new (K.held sink.old) (K.held sink.new)) }
     ensures front { IsErrOf result sink_failed
-        → IsToldInPart session.old line.now (K.held sink.old) (K.held sink.new) }
+        → IsRepliedInPart session.old line.now (K.held sink.old) (K.held sink.new) }
     ensures cause { HasStopCause K.faults sink.old sink.new result }
     ensures same { IsErrOf result NoMemory → session.new ≡ session.old }
 {

@@ -61,7 +61,8 @@ pub fn run<S: Source, K: Sink>(
     ensures other_words { AreOther words.now
         → (result ≡ Status.Usage) ⊎ (result ≡ Status.WriteFault) ⊎ (result ≡ Status.OutOfMemory) }
 
-    // The source is as before, but for a mode that pulls from it: once a byte of its limit at the most, and once more.
+    // The source is as before, but for a mode that pulls from it: once a byte of its limit at the most, and
+    // once more.
     ensures unread { (source.new ≡ source.old) ⊎ NameMode words.now Pulls }
     ensures few { (source.new ≡ source.old) ⊎ NameMode words.now (λ mode.
         S.pulls source.new ≤ S.pulls source.old + (limit_of mode + 1)) }

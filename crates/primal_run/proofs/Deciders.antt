@@ -20,6 +20,7 @@ use Rattle.problem_core.specs.declared.parts.Side.{Side}
 use Rattle.problem_core.specs.declared.parts.Side.TheVariants.{Under, Over}
 use Rattle.problem_core.specs.declared.parts.Level.TheVariants.{Stay as StayLevel}
 use Rattle.problem_core.specs.declared.parts.Stay.{Stay}
+use Rattle.problem_core.specs.declared.stops.What.TheVariants.{Mark as MarkOf}
 use Rattle.problem_core.specs.Kept.{IsRow, IsWhole}
 use Rattle.problem_core.specs.Layout.{Line, Problem, Row, coefficient, line_of_row, line_of_stay, lines, stay_lines}
 use Rattle.problem_core.specs.Corners.{IsIn, attr_column, marks_of, place, place_of}
@@ -36,12 +37,12 @@ use Rattle.corner_laws.proofs.MarkWritings.Equations.{writings_are_equal}
 use Rattle.corner_laws.proofs.MarkWritings.LowestForms.{column_has_writing}
 use Rattle.corner_table.proofs.Readings.KeptFacts.{in_is, is_in}
 use Rattle.corner.specs.Views.{CornerView, IsKeptCorner, IsNamed, IsStronger, in_order, is_mark}
-use Rattle.corner_writings.specs.Entries.{AreEntries}
+use Rattle.corner_writings.specs.Entries.{AreEntries, HasEntry}
 use Rattle.corner_ends.specs.Trails.{IsTrailOf, Trail}
 use Rattle.corner_ends.proofs.Marks.{contained, in_mark, one_mark, some_here, took_more}
 use Rattle.primal_run.specs.declared.deciding.Decider.{Decider}
 use Rattle.primal_run.specs.declared.deciding.Tie.{Tie}
-use Rattle.primal_run.specs.Deciding.{HasBegun, IsDecider, IsNoLater, IsOfRow, IsOrderAt, IsSeen, line_key, mark_key, stays_before}
+use Rattle.primal_run.specs.Deciding.{HasBegun, IsDecider, IsLate, IsNoLater, IsOfRow, IsOrderAt, IsSeen, line_key, mark_key, stays_before}
 use Rattle.primal_run.specs.Leaving.{IsRatioAt, WinsTie}
 use Rattle.primal_run.proofs.Counts.{by_numbers, less_numbers, same_numbers}
 

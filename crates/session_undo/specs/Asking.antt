@@ -1,5 +1,5 @@
 -- What a command asks of the scene, and how the step to it may end.
-use Rattle.std.specs.Prelude.{◌≡◌, ◌≢◌, ℕ, ◌*◌, List}
+use Rattle.std.specs.Prelude.{◌≡◌, ◌≢◌, ℕ, ◌*◌}
 use Rattle.held_items.specs.declared.row_numbers.TheConstants.{VIEW_ROWS}
 use Rattle.view_tree.specs.Drops.{AreGoing}
 use Rattle.scenes.specs.Drafts.{AreComing, HasRoomFor, MayUpdate, coming_draft, updated}

@@ -75,7 +75,7 @@ impl Session {
     ghost use Rattle.session_undo.specs.Adding.{IsViewMore, StopStep, SuggestStep, UnlessUnfree, ViewStep};
     ghost use Rattle.scenes.specs.Frames.{IsFrameOf};
     ghost use Rattle.session_undo.specs.Kept.{AreWithin};
-    ghost use Rattle.session_undo.specs.State.{first_state};
+    ghost use Rattle.session_undo.specs.State.{IsFirst};
     ghost use Rattle.session_undo.specs.Replies.{Accepting, Done, Limit, MayRefuse, Refusing};
     ghost use Rattle.held_items.specs.Items.{has_size};
     ghost use Rattle.session_undo.specs.Machine.{AreTooMany, Certifies, Diagnoses, IsCrowded, IsTaken, Keeps};
@@ -676,7 +676,9 @@ impl Session {
     // What a session keeps, for proofs.
     fn show_limits(&self)
         ensures { AreWithin self.now.limits }
-    {}
+    {
+        let _ = &self.limits; // for the proof: what a session keeps
+    }
 
     // The draft of a command by which views come.
     fn views_draft(&self, command: &Command<'_>) -> Result<Option<Draft>, Refusal>

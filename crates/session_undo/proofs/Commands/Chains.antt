@@ -1,7 +1,7 @@
 -- The steps of commands, whose earlier causes don't hold.
 use Rattle.std.proofs.Common.{◌≡◌, ℕ, ◌<◌, ◌≤◌, ◌^◌, Bool, true, false, cond, nat_eq, is_some, List, [], ◌∷◌, length, Some, None, IsSome, refl, sym, ap, ◌∙◌, subst, arith, inl, inr, true≢false, eq-eqb}
 use Rattle.std.proofs.lemmas.Grind.{common_steps}
-use Rattle.std.specs.Prelude.{IfOk, IfErr}
+use Rattle.std.specs.Prelude.{IfErr}
 use Rattle.std.specs.declared.option.Option.{Option}
 use Rattle.std.specs.declared.result.Result.{Result}
 use Rattle.std.specs.declared.result.Result.TheVariants.{Ok, Err}
@@ -21,7 +21,7 @@ use Rattle.compile_parts.specs.declared.stops.LargeConstant.{LargeConstant}
 use Rattle.layout_solver.specs.declared.engine.Change.{Change}
 use Rattle.layout_solver.specs.Shifts.{shifted}
 use Rattle.session_undo.specs.declared.reply.Refusal.{Refusal}
-use Rattle.session_undo.specs.Replies.{Reply, Unknown, Taken, Limit, MayRefuse}
+use Rattle.session_undo.specs.Replies.{Reply, Limit, MayRefuse}
 use Rattle.scenes.specs.Scene.{Scene, AreDraftRows, with_window, metrics_with}
 use Rattle.session_undo.specs.State.{State}
 use Rattle.session_undo.specs.Machine.{AddsView, IsDeep, IsCrowded, AreTooMany, TriedView, Unless, TriedMetric, TriedWindow, UnlessFar, HasAllViews}
@@ -169,10 +169,10 @@ module _ (old : State) (name parent : List ℕ) (above : ℕ) (End : Scene → R
   pub view-limited : (reply : Reply) (new : State) → ViewStep old name above reply new → TriedView old name parent End reply new
   view-limited reply new (word.Name, (live, free, long), keeps) = absurd (omega (arith, asked.named.short, long))
   view-limited reply new (word.Views, (live, free, (short, full)), keeps) =
-      found-named reply new (inl (inr (no-number old.scene.tree full (omega (arith, asked.named.few, asked.within.views))), keeps))
-  view-limited reply new (word.Depth, (live, free, (short, room, (depth, on, deep))), keeps) =
+      found-named reply new (inl (inr (no-number old.scene.tree full (omega (arith, asked.named.few, asked.within.views))), keeps.0, keeps.1))
+  view-limited reply new (word.Depth, (live, free, (short, not_full, (depth, on, deep))), keeps) =
       let v = asked-depth old.scene.tree parent above depth asked.found on in
-      found-named reply new (inr (few-views old asked.named.few room, inl ((v.0, depth, v.1, v.2, deep), keeps)))
+      found-named reply new (inr (few-views old asked.named.few not_full, inl ((v.0, depth, v.1, v.2, deep), keeps.0, keeps.1)))
   view-limited reply new (word.Line, (live, free, never), keeps) = absurd never
   view-limited reply new (word.Metrics, (live, free, never), keeps) = absurd never
   view-limited reply new (word.Lines, (live, free, never), keeps) = absurd never

@@ -4,14 +4,12 @@ use Rattle.std.specs.Global.{Vec}
 use Rattle.std.specs.List.{list_any}
 use Rattle.frac_core.specs.Fraction.{Fraction}
 use Rattle.span_text.specs.Objects.{Meant}
-use Rattle.compile_parts.specs.Meaning.{MetricList}
 use Rattle.constraint_compile.specs.Stops.{IsCompiled}
 use Rattle.format_compile.specs.FormatRows.{IsCompiledFormat}
 use Rattle.held_items.specs.declared.item.WindowSize.{WindowSize}
 use Rattle.held_items.specs.declared.item.coming.NewViews.{NewViews}
 use Rattle.held_items.specs.declared.item.suggesting.NewSuggestion.{NewSuggestion}
 use Rattle.held_items.specs.declared.item.suggesting.NewSuggestion.TheVariants as made
-use Rattle.held_items.specs.Items.{has_size}
 use Rattle.held_items.specs.Leaving.{is_in_group}
 use Rattle.script_text.specs.Meaning.{Linear}
 use Rattle.script_text.specs.Meaning as mean
@@ -25,7 +23,7 @@ use Rattle.scenes.specs.declared.scene.updates.NewLine.{NewLine}
 use Rattle.scenes.specs.declared.scene.updates.NewMetrics.{NewMetrics}
 use Rattle.scenes.specs.declared.scene.updates.Update.TheVariants as update
 use Rattle.session_undo.specs.declared.draft.Draft.TheVariants as draft
-use Rattle.session_undo.specs.Adding.{IsFreeLine, IsFreeMetric, IsFreeSize, IsFreeSuggestion, IsFreeTree, IsFreeView, IsGoing, IsHeldSuggestion, NoOther}
+use Rattle.session_undo.specs.Adding.{IsFreeLine, IsFreeMetric, IsFreeSize, IsFreeSuggestion, IsFreeTree, IsFreeView, IsGoing, IsHeldSuggestion}
 use Rattle.session_undo.specs.Asking.{AsksFor, IsDraft, drafted}
 use Rattle.session_undo.specs.Kept.{AreWithin}
 use Rattle.session_undo.specs.Machine.{IsCrowded, parent_name}

@@ -1,6 +1,6 @@
 -- What removals come to for the session.
 use Rattle.std.proofs.Common.{◌≡◌, ◌≢◌, ℕ, true, false, List, Option, Some, None, refl, sym, ap, subst, inl, inr, ◌∙◌, true≢false}
-use Rattle.std.specs.Prelude.{IfOk, IfErr, OnOk, OnErr}
+use Rattle.std.specs.Prelude.{IfOk, IfErr, OnOk}
 use Rattle.std.specs.List.{list_any}
 use Rattle.std.specs.Option.{option_map}
 use Rattle.std.specs.declared.result.Result.{Result}
@@ -20,7 +20,7 @@ use Rattle.scenes.specs.Steps.{HasLeft}
 use Rattle.session_undo.specs.Machine.{LeavesFree, TriedDrop, TriedRemove}
 use Rattle.session_undo.specs.Adding.{IsGoing, IsLeftAnswer, NoEnd, TellsStop}
 use Rattle.scenes.specs.Steps.{LeaveStopsAt}
-use Rattle.session_undo.proofs.Commands.Steps.{IsKeptIn, after, history_in, kept-after}
+use Rattle.session_undo.proofs.Commands.Steps.{IsKeptIn, after, kept-after}
 
 -- ---- the answer to a removal
 
@@ -49,12 +49,6 @@ module _ (draft : Scene) (old : State) (history : History) where
       → IfErr told (MayRefuse (λ reply. LeavesFree old draft reply old))
   left-refused (Ok done) told is stops = subst (λ (t : Result answer.Reply Refusal). IfErr t (MayRefuse Allowed)) (sym is) tt
   left-refused (Err stop) told (refused, is, tells) stops = subst (λ (t : Result answer.Reply Refusal). IfErr t (MayRefuse Allowed)) (sym is) (tells-refuse stop refused tells stops)
-
--- scenes that are as before make the session so
-pub left-same : (old : State) (history : History) (end : Result (Unit {0}) RemoveStop) (told : Result answer.Reply Refusal) → IsLeftAnswer end told → OnErr end (history ≡ history_in old) → OnErr told (after old history ≡ old)
-left-same old history (Ok done) told is same = subst (λ (t : Result answer.Reply Refusal). OnErr t (after old history ≡ old)) (sym is) tt
-left-same old history (Err stop) told (refused, is, tells) same =
-    subst (λ (t : Result answer.Reply Refusal). OnErr t (after old history ≡ old)) (sym is) (ap (λ (h : History). after old h) same)
 
 -- ---- no cause is there
 

@@ -1,5 +1,5 @@
 -- Where rows have room, they and their numbers are few enough for a scene.
-use Rattle.std.proofs.Common.{ℕ, ◌+◌, ◌^◌, ◌<◌, ◌≤◌, length, arith, inl, inr}
+use Rattle.std.proofs.Common.{ℕ, ◌+◌, ◌^◌, ◌≤◌, length, arith, inl, inr}
 use Rattle.std.proofs.lemmas.Bool.{cases_lt}
 use Rattle.session_undo.specs.State.{State}
 use Rattle.session_undo.specs.Machine.{IsCrowded}

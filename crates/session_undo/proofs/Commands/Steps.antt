@@ -12,7 +12,7 @@ use Rattle.cert_core.specs.declared.stops.RunStop.TheVariants as run
 use Rattle.cert_core.specs.Paths.{Path}
 use Rattle.session_undo.specs.declared.reply.Refusal.{Refusal}
 use Rattle.session_undo.specs.declared.reply.Refusal.TheVariants as refusal
-use Rattle.std.specs.Prelude.{IfOk, IfErr, OnOk, OnErr}
+use Rattle.std.specs.Prelude.{IfOk, IfErr, OnOk}
 use Rattle.std.specs.declared.result.Result.{Result}
 use Rattle.std.specs.declared.result.Result.TheVariants.{Ok, Err}
 use Rattle.session_undo.specs.Replies.{Reply, Done, Limit, Kind, MayRefuse, accepted}
@@ -41,10 +41,6 @@ refuses F G refusal.OutOfMemory to h = h
 -- the session with this scene and those before it
 abbrev pub after : State → History → State
 after old history = record old { scene = history.scene; earlier = history.earlier }
-
--- those of a session
-abbrev pub history_in : State → History
-history_in old = record { scene = old.scene; earlier = old.earlier }
 
 -- the scene before is the latest earlier one
 abbrev pub IsKeptIn : State → History → Type 0
@@ -98,12 +94,6 @@ module _ (draft : Scene) (old : State) (history : History) where
       → IfErr (answer_of end) (MayRefuse (λ reply. Solves old draft reply old))
   run-refused (Ok done) stops = tt
   run-refused (Err stop) stops = stop-refuses draft old stop stops
-
--- scenes that are as before make the session so
-pub answer-same : (old : State) (history : History) (end : Result (Unit {0}) RunStop) → OnErr end (history ≡ history_in old)
-    → OnErr (answer_of end) (after old history ≡ old)
-answer-same old history (Ok done) same = tt
-answer-same old history (Err stop) same = ap (λ (h : History). after old h) same
 
 -- ---- taking back
 

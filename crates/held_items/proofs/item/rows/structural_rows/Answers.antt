@@ -1,9 +1,7 @@
-use Rattle.std.proofs.Common.{◌≡◌, [], All, sym, subst}
+use Rattle.std.proofs.Common.{[]}
 use Rattle.std.proofs.lemmas.List.Elements.{All-from_recursion}
 use Rattle.problem_core.specs.Kept.{IsRow}
-use Rattle.problem_core.specs.Layout.{Row}
 use Rattle.held_items.proofs.item.rows.structural_rows.Goals as goal
-use Rattle.std.proofs.Common.{List}
 
 pub returns-clause-each : goal.returns-clause-each
 returns-clause-each c =

@@ -1,4 +1,4 @@
-use Rattle.std.proofs.Common.{◌≡◌, ◌∙◌, ◌+◌, ◌-◌, [], ℕ, suc, refl, arith}
+use Rattle.std.proofs.Common.{◌≡◌, ◌+◌, ◌-◌, [], suc, refl, arith}
 use Rattle.problem_core.specs.Layout.{Row}
 use Rattle.problem_core.specs.declared.parts.Rel.TheVariants.{Ge}
 use Rattle.problem_core.specs.Window.{required_row, zero_fraction}

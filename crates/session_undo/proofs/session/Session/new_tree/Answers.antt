@@ -7,8 +7,8 @@ pub returns-then-is_crowded-clause-refused : goal.returns-then-is_crowded-clause
 returns-then-is_crowded-clause-refused c =
     crowded-tree c.args.self.now c.args.text.now c.args.start NoEnd c.in-Ok.new.tree c.in-Ok.new.count c.in-Ok.ensures.made (c.if-is_crowded.ensures.yes refl)
 
-pub returns-in-Ok-clause-made : goal.returns-in-Ok-clause-made
-returns-in-Ok-clause-made c =
+pub returns-else-is_crowded-clause-made : goal.returns-else-is_crowded-clause-made
+returns-else-is_crowded-clause-made c =
     free-tree c.args.self.now c.args.text.now c.in-Ok.new.tree c.in-Ok.new.first_view.0 c.in-Ok.new.count c.in-Ok.ensures.made (c.if-is_crowded.ensures.no refl) c.in-Ok.ensures.first
 
 pub returns-in-Err-clause-refused : goal.returns-in-Err-clause-refused

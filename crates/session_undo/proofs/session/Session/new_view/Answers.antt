@@ -8,8 +8,8 @@ use Rattle.session_undo.proofs.Commands.Chains.{IsAsked, found-live, view-free, 
 use Rattle.session_undo.proofs.Commands.Steps.{refuses}
 use Rattle.session_undo.proofs.session.Session.new_view.Goals as goal
 
-pub views_with-requires-live : goal.views_with-requires-live
-views_with-requires-live c = found-live c.self.inside.scene.scene.tree.views c.args.parent.now c.in-Some.above.0 (rw c.tree.ensures at c.in-Some.ensures)
+pub views_with-requires-clause-live : goal.views_with-requires-clause-live
+views_with-requires-clause-live c = rw (← c.self.view_is) (found-live c.self.inside.scene.scene.tree.views c.args.parent.now c.in-Some.above.0 (rw c.tree.ensures at c.in-Some.ensures))
 
 pub returns-in_err-free_name-clause-refused : goal.returns-in_err-free_name-clause-refused
 returns-in_err-free_name-clause-refused c =

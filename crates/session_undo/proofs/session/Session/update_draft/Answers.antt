@@ -1,3 +1,4 @@
+use Rattle.std.proofs.lemmas.Result.{err_from_is_err_and}
 use Rattle.script_text.specs.View.{linear_view}
 use Rattle.span_text.specs.Objects.{object_view}
 use Rattle.vfl_text.specs.View.{meaning}
@@ -8,9 +9,9 @@ pub returns-in_ok-new-in-Metric-clause-made : goal.returns-in_ok-new-in-Metric-c
 returns-in_ok-new-in-Metric-clause-made c =
     rw c.in-Metric.is (metric-draft c.args.self.now c.in-Metric.name.now c.in-Metric.value c.in_ok-new-in-Metric.new c.in_ok-new-in-Metric.ensures.made)
 
-pub returns-in-Window-clause-made : goal.returns-in-Window-clause-made
-returns-in-Window-clause-made c =
-    rw c.in-Window.is (window-draft c.args.self.now c.show_limits.ensures c.in-Window.width c.in-Window.height c.in_ok-size.size c.in_ok-size.ensures.is c.in_ok-size.ensures.made)
+pub returns-in_ok-size-in-Window-clause-made : goal.returns-in_ok-size-in-Window-clause-made
+returns-in_ok-size-in-Window-clause-made c =
+    rw c.in-Window.is (window-draft c.args.self.now c.show_limits.ensures c.in-Window.width c.in-Window.height c.in_ok-size-in-Window.size c.in_ok-size-in-Window.ensures.is c.in_ok-size-in-Window.ensures.made)
 
 pub returns-in_ok-new-in-Constrain-clause-made : goal.returns-in_ok-new-in-Constrain-clause-made
 returns-in_ok-new-in-Constrain-clause-made c =
@@ -23,3 +24,18 @@ returns-in_ok-new-in-Vfl-clause-made c =
 pub returns-in_ok-new-in-Suggest-clause-made : goal.returns-in_ok-new-in-Suggest-clause-made
 returns-in_ok-new-in-Suggest-clause-made c =
     rw c.in-Suggest.is (suggest-draft c.args.self.now c.show_limits.ensures c.in-Suggest.view.now c.in-Suggest.word c.in-Suggest.value (object_view c.in-Suggest.priority) c.in_ok-new-in-Suggest.new c.in_ok-new-in-Suggest.ensures.made)
+
+pub returns-in_err-new-in-Metric-clause-refused : goal.returns-in_err-new-in-Metric-clause-refused
+returns-in_err-new-in-Metric-clause-refused c =
+    let exit = err_from_is_err_and c.from_residual.result c.from_residual.ensures.1 in
+    rw (exit.1, exit.2, c.in-Metric.is) c.in_err-new-in-Metric.ensures.refused
+
+pub returns-in_err-size-in-Window-clause-refused : goal.returns-in_err-size-in-Window-clause-refused
+returns-in_err-size-in-Window-clause-refused c =
+    let exit = err_from_is_err_and c.from_residual-in_err-size-in-Window.result c.from_residual-in_err-size-in-Window.ensures.1 in
+    rw (exit.1, exit.2, c.in-Window.is) c.in_err-size-in-Window.ensures.refused
+
+pub returns-in_err-new-in-Constrain-clause-refused : goal.returns-in_err-new-in-Constrain-clause-refused
+returns-in_err-new-in-Constrain-clause-refused c =
+    let exit = err_from_is_err_and c.from_residual-in_err-new-in-Constrain.result c.from_residual-in_err-new-in-Constrain.ensures.1 in
+    rw (exit.1, exit.2, c.in-Constrain.is) c.in_err-new-in-Constrain.ensures.refused

@@ -24,7 +24,7 @@ returns-in-Err-Limit-clause-refused c =
     let old = (session_at c.self.inside.scene c.self.inside.budget c.self.inside.limits) in
     let stop : MayStop old.scene.tree c.args.name.now c.args.above.0 (Limit c.in-Err-Limit.word) =
     rw (c.in-Err-Limit.field-0-is, c.in_ok-tree.ensures, c.tree-views.ensures) at c.in-Err-Limit.ensures.refused in
-    rw (← c.self.view_is) (c.in-Err-Limit.word, stop, refl, refl)
+    rw (c.in-Err-Limit.field-0-is, ← c.self.view_is) (c.in-Err-Limit.word, stop, (refl, refl))
 
 pub returns-in-Ok-clause-made : goal.returns-in-Ok-clause-made
 returns-in-Ok-clause-made c =
