@@ -33,8 +33,8 @@ Run old (line ∷ more) text good new = (reply : Reply) × (mid : State) × (res
     × Step old line reply mid × (text ≡ text_of mid.scene reply ++ rest)
     × (good ≡ (is_accepted reply && rest_good)) × Run mid more rest rest_good new
 
--- A run of the lines from a new session; of no line there is nothing. The text decides the last session but for
--- the corner that is kept.
+-- A run of the lines from a new session; of no line there is nothing. The text decides the last session but
+-- for the corner that is kept.
 abbrev pub NewRun : List (List ℕ) → List ℕ → Bool → Type 0
 NewRun [] text good = (text ≡ []) × (good ≡ true)
 NewRun (line ∷ more) text good = (first last : State) × IsFirst first × Run first (line ∷ more) text good last

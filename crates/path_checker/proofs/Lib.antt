@@ -4,7 +4,9 @@ pub mod Arithmetic
 pub mod Walking
 pub mod Verdicts
 pub mod Places
+pub mod Replacing
 pub mod MarkSides
+pub mod CornerNumbers
 pub mod Iffs
 pub mod FirstClauses
 pub mod Examples

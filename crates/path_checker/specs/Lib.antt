@@ -1,4 +1,5 @@
 pub mod Stops
+pub mod Numbering
 pub mod Numbers
 pub mod Tables
 pub mod Exchanges

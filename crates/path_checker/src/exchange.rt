@@ -2,7 +2,8 @@
 ghost use Rattle.std.specs.Prelude.{◌≡◌, ◌≢◌, ◌<◌, ◌*ℤ◌, ◌<ℤ◌, ◌≤ℤ◌, pos, length, true, false};
 ghost use Rattle.std.specs.Prelude.{◌↔◌, All, IfOk, IfErr, IsTrue, List, OnErr};
 ghost use Rattle.frac_core.specs.Stops.{IsRefused};
-ghost use Rattle.frac_core.specs.Fraction.{IsFitting, IsKept, IsRatio, IsUnfitRatio, sum_den, sum_num};
+ghost use Rattle.frac_core.specs.Fraction.{Fraction, IsFitting, IsKept, IsRatio, IsUnfitRatio, sum_den};
+ghost use Rattle.frac_core.specs.Fraction.{sum_num};
 ghost use Rattle.problem_core.specs.Window.{zero_fraction};
 ghost use Rattle.problem_core.specs.Layout.{Problem};
 ghost use Rattle.problem_core.specs.Corners.{IsExchange};
@@ -11,7 +12,7 @@ ghost use Rattle.path_checker.specs.Numbers.{AreFitting, IsCombined, IsFactor, I
 ghost use Rattle.path_checker.specs.Numbers.{flip_sign, number_at};
 ghost use Rattle.path_checker.specs.Tables.{AreLines, AreSized, IsSized, IsSizedLine, IsThere, swap_of};
 ghost use Rattle.path_checker.specs.Exchanges.Pivots.{AreNextLines, AreUnfitNext, IsEnteringSum};
-ghost use Rattle.path_checker.specs.Exchanges.Pivots.{IsLeavingBy, IsNextLine, IsNextSum, IsSolvedFrom};
+ghost use Rattle.path_checker.specs.Exchanges.Pivots.{IsNextLine, IsNextSum, IsPivotBy, IsSolvedFrom};
 ghost use Rattle.path_checker.specs.Exchanges.Pivots.{IsUnfitNext, IsUnfitNextSum, LeadTo, LeadToUnfit};
 ghost use Rattle.path_checker.specs.Exchanges.Pivots.{LeadsToUnfit};
 
@@ -79,7 +80,7 @@ fn with_number(
 }
 
 /// Whether the marks make an exchange at the corner.
-pub fn is_exchange(lines: &[Option<Inside>], step: Step) -> bool
+pub(crate) fn is_exchange(lines: &[Option<Inside>], step: Step) -> bool
     requires enter { step.enter.at < length lines.now }
     requires leave { step.leave.at < length lines.now }
     requires sized { AreSized lines.now }
@@ -106,8 +107,8 @@ fn may_enter(inside: &Inside, step: Step) -> bool
     }
 }
 
-/// The pivot of an exchange of two lines: the leaving line's equation, solved for the entering line.
-pub fn solving(alloc: Global, leaving: &Sum, step: Step) -> Result<Pivot, OutOfMemory>
+// The pivot of an exchange of two lines: the leaving line's equation, solved for the entering line.
+fn solving(alloc: Global, leaving: &Sum, step: Step) -> Result<Pivot, OutOfMemory>
     requires enter { step.enter.at < length leaving.now.by.items }
     requires sized { IsSized (length leaving.now.by.items) leaving.now }
     requires some { number_at leaving.now.by.items step.enter.at ≢ pos 0 }
@@ -196,8 +197,8 @@ pub fn carried(alloc: Global, pivot: &Pivot, sum: &Sum) -> Result<Wide, OutOfMem
     })
 }
 
-/// The pivot as the entering line's sum.
-pub fn entering(alloc: Global, pivot: &Pivot) -> Result<Wide, OutOfMemory>
+// The pivot as the entering line's sum.
+fn entering(alloc: Global, pivot: &Pivot) -> Result<Wide, OutOfMemory>
     requires { AreFitting pivot.now.size pivot.now.by.items }
     ensures own { IfOk result (λ w. w.own ≡ pivot.now.size) }
     ensures by { IfOk result (λ w. IsReplaced (pos 1) pivot.now.by.items pivot.now.step.enter.at (pos 0)
@@ -210,8 +211,8 @@ pub fn entering(alloc: Global, pivot: &Pivot) -> Result<Wide, OutOfMemory>
     })
 }
 
-/// The value of the entering line's deviation after an exchange.
-pub fn entering_value(pivot: &Pivot) -> Result<Frac, Unfit>
+// The value of the entering line's deviation after an exchange.
+fn entering_value(pivot: &Pivot) -> Result<Frac, Unfit>
     requires times { IsFitting pivot.now.times }
     requires size { IsFitting pivot.now.size }
     requires above { pos 0 <ℤ pivot.now.size }
@@ -244,8 +245,8 @@ pub fn sum_of(numbers: Lowest, value: Frac) -> Sum
     }
 }
 
-/// The entering line's sum after an exchange of two lines, where its deviation's value is `enters`.
-pub fn entering_sum(alloc: Global, pivot: &Pivot, enters: Frac) -> Result<Sum, SumStop>
+// The entering line's sum after an exchange of two lines, where its deviation's value is `enters`.
+fn entering_sum(alloc: Global, pivot: &Pivot, enters: Frac) -> Result<Sum, SumStop>
     requires above { pos 0 <ℤ pivot.now.size }
     requires fits { AreFitting pivot.now.size pivot.now.by.items }
     ensures sized { IfOk result (IsSized (length pivot.now.by.items)) }
@@ -257,8 +258,8 @@ pub fn entering_sum(alloc: Global, pivot: &Pivot, enters: Frac) -> Result<Sum, S
     Ok(sum_of(numbers, enters))
 }
 
-/// An inside line's sum after an exchange of two lines.
-pub fn carried_sum(alloc: Global, pivot: &Pivot, sum: &Sum, enters: Frac) -> Result<Sum, SumStop>
+// An inside line's sum after an exchange of two lines.
+fn carried_sum(alloc: Global, pivot: &Pivot, sum: &Sum, enters: Frac) -> Result<Sum, SumStop>
     requires above { pos 0 <ℤ pivot.now.size }
     requires fits { AreFitting pivot.now.size pivot.now.by.items }
     requires enter { pivot.now.step.enter.at < length pivot.now.by.items }
@@ -306,27 +307,44 @@ fn exchanged_line(
     Ok(Some(Inside { side, sum: next }))
 }
 
-/// The lines after an exchange of two lines, where the entering line's deviation has the value `enters`.
-pub fn exchanged_lines(
+// Whether an exchange of two lines may change what is kept of the line at a place.
+fn is_touched(pivot: &Pivot, old: &Option<Inside>, at: usize) -> bool
+    requires enter { pivot.now.step.enter.at < length pivot.now.by.items }
+    requires sized { IsSizedLine (length pivot.now.by.items) old.now }
+    ensures { result ≡ false → (enters : Fraction) → IsNextLine pivot.now enters at old.now old.now }
+{
+    if at == pivot.step.enter.at || at == pivot.step.leave.at {
+        return true;
+    }
+    match old {
+        Some(inside) => stands(&inside.sum.by, pivot.step.enter.at),
+        None => false,
+    }
+}
+
+// The lines after an exchange of two lines, where the entering line's deviation has the value `enters`: those
+// that the exchange doesn't touch stay as they are.
+fn exchanged_lines(
     alloc: Global,
     pivot: &Pivot,
-    lines: &[Option<Inside>],
+    lines: Vec<Option<Inside>>,
     enters: Frac,
 ) -> Result<Vec<Option<Inside>>, SumStop>
     requires above { pos 0 <ℤ pivot.now.size }
     requires fits { AreFitting pivot.now.size pivot.now.by.items }
     requires enter { pivot.now.step.enter.at < length pivot.now.by.items }
-    requires count { length pivot.now.by.items ≡ length lines.now }
-    requires sized { AreSized lines.now }
+    requires count { length pivot.now.by.items ≡ length lines.items }
+    requires sized { AreSized lines.items }
     ensures sized { IfOk result (λ next. AreSized next.items) }
-    ensures count { IfOk result (λ next. length next.items ≡ length lines.now) }
-    ensures lines { IfOk result (λ next. AreNextLines pivot.now enters lines.now next.items) }
-    ensures unfit { IfErr result (λ stop. IsRefused stop → AreUnfitNext pivot.now enters lines.now) }
+    ensures count { IfOk result (λ next. length next.items ≡ length lines.items) }
+    ensures lines { IfOk result (λ next. AreNextLines pivot.now enters lines.items next.items) }
+    ensures unfit { IfErr result (λ stop. IsRefused stop → AreUnfitNext pivot.now enters lines.items) }
 {
-    let mut out = Vec::with_capacity(alloc, lines.len())?;
-    for (at, old) in lines.iter().enumerate() {
-        let line = exchanged_line(alloc, pivot, old, at, enters)?;
-        out.push(line)?;
+    let mut out = lines;
+    for at in 0..out.len() {
+        if is_touched(pivot, &out[at], at) {
+            out[at] = exchanged_line(alloc, pivot, &out[at], at, enters)?;
+        }
     }
     Ok(out)
 }
@@ -338,58 +356,58 @@ fn is_turn(step: Step) -> bool
     step.enter.at == step.leave.at
 }
 
-/// Whether the number at the place is not 0.
-pub fn stands(by: &[i64], at: usize) -> bool
+// Whether the number at the place is not 0.
+fn stands(by: &[i64], at: usize) -> bool
     requires { at < length by.now }
     ensures { IsTrue result ↔ (number_at by.now at ≢ pos 0) }
 {
     by[at] != 0
 }
 
-// The lines after an exchange of two lines, where this is the leaving line's sum.
-fn solved_lines(
-    alloc: Global,
-    lines: &[Option<Inside>],
-    leaving: &Sum,
-    step: Step,
-) -> Result<Vec<Option<Inside>>, SumStop>
-    requires enter { step.enter.at < length lines.now }
-    requires sized { AreSized lines.now }
-    requires leaving { IsSized (length lines.now) leaving.now }
-    ensures sized { IfOk result (λ next. AreSized next.items) }
-    ensures count { IfOk result (λ next. length next.items ≡ length lines.now) }
-    ensures next { IfOk result (λ next. IsLeavingBy step lines.now leaving.now
-        → LeadTo step lines.now next.items) }
-    ensures unfit { IfErr result (λ stop. IsRefused stop → IsLeavingBy step lines.now leaving.now
-        → LeadToUnfit step lines.now) }
+/// The leaving line's equation, solved for the entering line. Unfit where that has no number there.
+pub fn solved_from(alloc: Global, leaving: &Sum, step: Step) -> Result<Pivot, SumStop>
+    requires enter { step.enter.at < length leaving.now.by.items }
+    requires sized { IsSized (length leaving.now.by.items) leaving.now }
+    ensures pivot { IfOk result (IsSolvedFrom leaving.now step) }
+    ensures unfit { IfErr result (λ stop. IsRefused stop → number_at leaving.now.by.items step.enter.at ≡ pos 0) }
 {
     if !stands(&leaving.by, step.enter.at) {
         return Err(Stop::Refused(Unfit));
     }
-    let pivot = solving(alloc, leaving, step)?;
-    let enters = entering_value(&pivot)?;
-    exchanged_lines(alloc, &pivot, lines, enters)
+    Ok(solving(alloc, leaving, step)?)
 }
 
-// The lines after an exchange of two lines.
-fn solved_at(
-    alloc: Global,
-    lines: &[Option<Inside>],
-    step: Step,
-) -> Result<Vec<Option<Inside>>, SumStop>
+// The pivot of an exchange of two lines.
+fn solved_at(alloc: Global, lines: &[Option<Inside>], step: Step) -> Result<Pivot, SumStop>
     requires enter { step.enter.at < length lines.now }
     requires leave { step.leave.at < length lines.now }
+    requires apart { step.enter.at ≢ step.leave.at }
     requires sized { AreSized lines.now }
-    ensures sized { IfOk result (λ next. AreSized next.items) }
-    ensures count { IfOk result (λ next. length next.items ≡ length lines.now) }
-    ensures next { IfOk result (λ next. step.enter.at ≢ step.leave.at → LeadTo step lines.now next.items) }
-    ensures unfit { IfErr result (λ stop. IsRefused stop → step.enter.at ≢ step.leave.at
-        → LeadToUnfit step lines.now) }
+    ensures pivot { IfOk result (IsPivotBy step lines.now) }
+    ensures unfit { IfErr result (λ stop. IsRefused stop → LeadToUnfit step lines.now) }
 {
     match &lines[step.leave.at] {
-        Some(inside) => solved_lines(alloc, lines, &inside.sum, step),
+        Some(inside) => solved_from(alloc, &inside.sum, step),
         None => Err(Stop::Refused(Unfit)),
     }
+}
+
+// The lines after an exchange of two lines with this pivot.
+fn solved_lines(
+    alloc: Global,
+    pivot: &Pivot,
+    lines: Vec<Option<Inside>>,
+) -> Result<Vec<Option<Inside>>, SumStop>
+    requires sized { AreSized lines.items }
+    requires pivot { IsPivotBy pivot.now.step lines.items pivot.now }
+    requires enter { pivot.now.step.enter.at < length lines.items }
+    ensures sized { IfOk result (λ next. AreSized next.items) }
+    ensures count { IfOk result (λ next. length next.items ≡ length lines.items) }
+    ensures next { IfOk result (λ next. LeadTo pivot.now.step lines.items next.items) }
+    ensures unfit { IfErr result (λ stop. IsRefused stop → LeadToUnfit pivot.now.step lines.items) }
+{
+    let enters = entering_value(pivot)?;
+    exchanged_lines(alloc, pivot, lines, enters)
 }
 
 /// The lines after an exchange that can be made.
@@ -411,5 +429,6 @@ pub fn after_exchange(
         turn(&mut next, step);
         return Ok(next);
     }
-    solved_at(alloc, &lines, step)
+    let pivot = solved_at(alloc, &lines, step)?;
+    solved_lines(alloc, &pivot, lines)
 }

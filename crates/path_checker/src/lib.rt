@@ -15,7 +15,7 @@
 //! which of its marks is inside and the equation of its deviation, in whole numbers without a common factor,
 //! each below 2^42 in size. The checker's route begins where the over marks of the held rows are inside
 //! (`first_lines`), brings in the marks of the path's first corner one by one (`to_corner`, by
-//! `bringing_in`), and goes along its swaps (`follow`). [`is_exchange`] is exact; [`after_exchange`] gives
+//! `bringing_in`), and goes along its swaps (`follow`). `is_exchange` is exact; [`after_exchange`] gives
 //! the next corner's lines, or something doesn't fit there, which the answer tells as `NoRoom` with the
 //! count of exchanges. The lines of the route's last corner aren't made.
 //!
@@ -27,11 +27,15 @@
 //! numbers are the next corner's equations, why a set of marks to which no inside mark gives way is no
 //! corner, when no corner comes twice, and that the clauses of a path together are the path.
 //!
+//! A checker of whole paths is one unit in three crates. [`check_exchanges`], [`PathVerdict`] with the numbers
+//! of the clauses, [`PATH_LIMIT`] and the laws are what this one offers; all else that is public is for
+//! `path_levels` and `path_claims` alone, which go along the same route with the levels' rows.
+//!
 //! In reading order: `spots` (marks by place), `table` (a corner's lines), `stop` (why a sum isn't made),
-//! `numbers` (lowest terms), `exchange`, `signs` (of values), `route` (which mark is brought in, and corners
-//! that come twice), `first` (the lines where the route begins), `way` (the way to the first corner and along
-//! the swaps), `verdict` (the checker's answer), `check` (the first clauses), `laws`, `costs` (what a line
-//! costs).
+//! `numbers` (lowest terms), `exchange`, `signs` (of values), `numbering` (corners by numbers), `route` (which
+//! mark is brought in, and corners that come twice), `first` (the lines where the route begins), `way` (the
+//! way to the first corner and along the swaps), `verdict` (the checker's answer), `check` (the first
+//! clauses), `laws`, `costs` (what a line costs).
 #![tactic(auto)]
 
 mod check;
@@ -39,6 +43,7 @@ mod costs;
 mod exchange;
 mod first;
 mod laws;
+mod numbering;
 mod numbers;
 mod route;
 mod signs;
@@ -50,10 +55,7 @@ mod way;
 
 pub use check::check_exchanges;
 pub use costs::weights;
-pub use exchange::{
-    Pivot, after_exchange, carried, carried_sum, entering, entering_sum, entering_value,
-    exchanged_lines, is_exchange, number_of, pair_product, solving, stands, sum_of,
-};
+pub use exchange::{Pivot, after_exchange, carried, number_of, pair_product, solved_from, sum_of};
 pub use first::{first_lines, first_sum, stay_of, with_stays, zeros};
 pub use laws::{
     apart_by_sides, begins_there, carried_is_equation, carried_level_is_row, entering_is_equation,
@@ -61,15 +63,13 @@ pub use laws::{
     solved_is_pivot, some_paths_hold, turned_lines_are, unfit_list_is_unfit, yes_is_path,
 };
 pub use numbers::{Lowest, Ratio, Wide, combined, in_lowest_terms, moved_sign};
-pub use route::{bringing_in, comes_twice, is_one, moved, sides_of};
+pub use route::{bringing_in, is_one, moved, sides_of};
 pub use signs::{has_no_negative_value, is_down, is_on_side, is_up};
 pub use spots::{Spot, Step, names, spot_of, step_of};
 pub use stop::SumStop;
-pub use table::{Inside, Sum, turn};
+pub use table::{Inside, Sum};
 pub use verdict::{
     APART_CLAUSE, CALLED_CLAUSE, CORNER_CLAUSE, EXCHANGES_CLAUSE, PathVerdict, SOUND_CLAUSE,
     UNFIT_CLAUSE, constants_are_as_said,
 };
-pub use way::{
-    Kept, PATH_LIMIT, Way, WayStop, brought, first_sides, follow, lines_now, to_corner, told,
-};
+pub use way::{PATH_LIMIT, WayStop, first_sides, told};

@@ -37,6 +37,9 @@ fn common_divisor(own: i128, by: &[i128]) -> u128
 {
     let mut divisor = own.unsigned_abs();
     for number in by {
+        if divisor == 1 {
+            return 1;
+        }
         divisor = gcd(number.unsigned_abs(), divisor);
     }
     divisor

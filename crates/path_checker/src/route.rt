@@ -7,15 +7,18 @@ ghost use Rattle.problem_core.specs.Corners.{IsCorner, IsIn, place};
 ghost use Rattle.std.specs.Prelude.{◌≢◌, AllPairs};
 ghost use Rattle.problem_core.specs.declared.parts.Mark.{Mark};
 ghost use Rattle.path_checker.specs.Walking.Bringing.{IsBringing, MayGive, NoneGives, NothingBrings};
-ghost use Rattle.path_checker.specs.Sides.{ComesTwice, IsWithin, moved_sides, walk};
+ghost use Rattle.path_checker.specs.Numbering.{HasDouble};
+ghost use Rattle.path_checker.specs.Sides.{ComesTwice, IsWithin, moved_sides};
 ghost use Rattle.path_checker.specs.Tables.{AreSides, AreSized, names_of};
 
 use crate::exchange::is_exchange;
+use crate::numbering::corner_numbers;
 use crate::spots::{Spot, Step, spot_of};
 use crate::table::Inside;
 use frac_core::OutOfMemory;
 use problem_core::{Mark, RowName, Side};
 use std::alloc::Global;
+use std::collections::BTreeSet;
 
 /// The marks inside after an exchange.
 pub fn moved(sides: &mut [Option<Side>], step: Step)
@@ -34,34 +37,13 @@ pub fn is_one(a: Option<Side>, b: Option<Side>) -> bool
     a == b
 }
 
-// Whether the same marks are inside.
-fn is_same(a: &[Option<Side>], b: &[Option<Side>]) -> bool
-    requires { length a.now ≡ length b.now }
-    ensures { IsTrue result ↔ (a.now ≡ b.now) }
+// Whether some number comes twice.
+fn has_double(alloc: Global, numbers: &[usize]) -> Result<bool, OutOfMemory>
+    ensures { IfOk result (λ double. IsTrue double ↔ HasDouble numbers.now) }
 {
-    for (at, side) in a.iter().enumerate() {
-        if !is_one(*side, b[at]) {
-            return false;
-        }
-    }
-    true
-}
-
-// Whether the exchanges from this one on lead back to where they begin.
-fn comes_back(
-    alloc: Global,
-    first: &[Option<Side>],
-    steps: &[Step],
-    from: usize,
-) -> Result<bool, OutOfMemory>
-    requires { All (IsWithin (length first.now)) steps.now }
-    ensures { IfOk result (λ back. IsTrue back
-        ↔ Any (λ next. next ≡ first.now) (walk first.now (drop from steps.now))) }
-{
-    let mut sides = Vec::from_slice(alloc, first)?;
-    for at in from..steps.len() {
-        moved(&mut sides, steps[at]);
-        if is_same(&sides, first) {
+    let mut seen = BTreeSet::new(alloc);
+    for number in numbers {
+        if !seen.insert(*number)? {
             return Ok(true);
         }
     }
@@ -69,7 +51,7 @@ fn comes_back(
 }
 
 /// Whether the same marks are inside twice along the exchanges.
-pub fn comes_twice(
+pub(crate) fn comes_twice(
     alloc: Global,
     first: &[Option<Side>],
     steps: &[Step],
@@ -77,15 +59,11 @@ pub fn comes_twice(
     requires { All (IsWithin (length first.now)) steps.now }
     ensures { IfOk result (λ twice. IsTrue twice ↔ ComesTwice first.now steps.now) }
 {
-    let mut sides = Vec::from_slice(alloc, first)?;
-    for (at, step) in steps.iter().enumerate() {
-        let back = comes_back(alloc, &sides, steps, at)?;
-        if back {
-            return Ok(true);
-        }
-        moved(&mut sides, *step);
+    if steps.is_empty() {
+        return Ok(false);
     }
-    Ok(false)
+    let numbers = corner_numbers(alloc, first, steps)?;
+    has_double(alloc, &numbers)
 }
 
 // ---- the marks of a path's first corner

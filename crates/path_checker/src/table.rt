@@ -23,7 +23,7 @@ pub struct Inside {
 }
 
 /// Brings the other mark of an inside line in.
-pub fn turn(lines: &mut [Option<Inside>], step: Step)
+pub(crate) fn turn(lines: &mut [Option<Inside>], step: Step)
     requires { step.enter.at < length lines.old }
     ensures { IsTurned step.enter.at step.enter.side lines.old lines.new }
 {

@@ -36,7 +36,7 @@ pub const PATH_LIMIT: usize = 1 << 31;
 /// one where it begins, and how many exchanges led there. Its own lines are made once another exchange is to
 /// be judged there.
 #[derive(Drop)]
-pub struct Kept {
+pub(crate) struct Kept {
     pub lines: Vec<Option<Inside>>,
     pub step: Option<Step>,
     pub count: u32,
@@ -44,7 +44,7 @@ pub struct Kept {
 
 /// A corner on the way: what is kept of it, and which mark of each line is inside.
 #[derive(Drop)]
-pub struct Way {
+pub(crate) struct Way {
     pub kept: Kept,
     pub sides: Vec<Option<Side>>,
 }
@@ -84,8 +84,8 @@ impl From<OutOfMemory> for WayStop {
     }
 }
 
-/// The lines of the corner, or something that counts does not fit there.
-pub fn lines_now(alloc: Global, p: &Problem, kept: Kept) -> Result<Vec<Option<Inside>>, SumStop>
+// The lines of the corner, or something that counts does not fit there.
+fn lines_now(alloc: Global, p: &Problem, kept: Kept) -> Result<Vec<Option<Inside>>, SumStop>
     requires { IsUsable (line_count p.now) kept }
     ensures sized { IfOk result (λ lines. AreSized lines.items) }
     ensures count { IfOk result (λ lines. length lines.items ≡ line_count p.now) }
@@ -126,8 +126,8 @@ fn kept_after(lines: Vec<Option<Inside>>, step: Step, count: u32) -> Kept
     Kept { lines, step, count }
 }
 
-/// The exchange that brings a mark of a path's first corner in, and what is kept of the corner after it.
-pub fn brought(
+// The exchange that brings a mark of a path's first corner in, and what is kept of the corner after it.
+fn brought(
     alloc: Global,
     p: &Problem,
     kept: Kept,
@@ -231,7 +231,7 @@ fn first_way(alloc: Global, p: &Problem) -> Result<Way, OutOfMemory>
 
 /// The way to a path's first corner, unless its marks are none, or something that counts does not fit on the
 /// way.
-pub fn to_corner(
+pub(crate) fn to_corner(
     alloc: Global,
     p: &Problem,
     names: &[RowName],
@@ -281,7 +281,7 @@ fn next_lines(
 }
 
 /// The swaps of a path by places, where each is an exchange. The lines of its last corner aren't made.
-pub fn follow(
+pub(crate) fn follow(
     alloc: Global,
     p: &Problem,
     names: &[RowName],

@@ -107,13 +107,14 @@ pub fn table_after(
     ensures next { IfOk result (LeadsToTable p.now outline.now table step) }
     ensures unfit { IfErr result (λ stop. IsRefused stop → LeadsToUnfitTable p.now outline.now table step) }
 {
+    let Table { lines, levels } = table;
     let corner = CornerLines {
         outline,
-        lines: &table.lines,
+        lines: &lines,
     };
     let exchange = LineExchange { corner, step };
-    let levels = next_levels(alloc, exchange, &table.levels)?;
-    let lines = after_exchange(alloc, table.lines, step)?;
+    let levels = next_levels(alloc, exchange, levels)?;
+    let lines = after_exchange(alloc, lines, step)?;
     if !attrs_fit(p, &lines) {
         return Err(Stop::Refused(Unfit));
     }

@@ -7,3 +7,4 @@ pub mod CostFacts
 pub mod MovedValues
 pub mod NextLevels
 pub mod AllNextLevels
+pub mod Untouched

@@ -1,6 +1,6 @@
 // The rows of levels after an exchange.
 ghost use Rattle.std.specs.Prelude.{◌≡◌, ◌<◌, ◌^◌, ◌*ℤ◌, ◌↔◌};
-ghost use Rattle.std.specs.Prelude.{length, IfOk, IfErr, IfSome, IfNone, IsTrue};
+ghost use Rattle.std.specs.Prelude.{length, false, IfOk, IfErr, IfSome, IfNone, IsTrue};
 ghost use Rattle.std.specs.Prelude.{◌<ℤ◌, pos, unsigned_abs};
 ghost use Rattle.frac_core.specs.Stops.{IsRefused};
 ghost use Rattle.frac_core.specs.Fraction.{IsFitting};
@@ -10,7 +10,7 @@ ghost use Rattle.path_levels.specs.Outlines.{IsPriced};
 ghost use Rattle.path_levels.specs.Levels.{AreLevels, AreSizedLevels, HasUnfitLevel};
 ghost use Rattle.path_levels.specs.Levels.{HasNoSumAt, IsSizedLevel, IsSumAt};
 ghost use Rattle.path_levels.specs.Shares.{IsScaled, entering_of, shown_of};
-ghost use Rattle.path_levels.specs.Exchanges.Pivots.{IsSizedPivot};
+ghost use Rattle.path_levels.specs.Exchanges.Pivots.{IsPivotFor, IsSizedPivot};
 ghost use Rattle.path_levels.specs.Exchanges.FitsAfter.{IsCostStop, IsFitLevel, IsFitLine, IsMadeLevel};
 ghost use Rattle.path_levels.specs.Exchanges.FitsAfter.{IsMovedCost};
 ghost use Rattle.path_levels.specs.Exchanges.FitsAfter.{side_of_after};
@@ -24,7 +24,7 @@ use crate::shares::{has_fitting_cost, stood_number};
 use crate::sums::{LevelRow, LevelSum};
 use crate::tableau::CornerLines;
 use frac_core::{Frac, PART_BOUND, Stop, Unfit};
-use path_checker::{Inside, Lowest, Pivot, Ratio, Step, SumStop, in_lowest_terms};
+use path_checker::{Inside, Lowest, Pivot, Ratio, Step, SumStop, in_lowest_terms, number_of};
 use problem_core::Side;
 use std::alloc::Global;
 
@@ -167,6 +167,43 @@ fn level_with(unit: i64, numbers: Lowest, cost: Frac) -> LevelSum
     }
 }
 
+// The row of the level at a place after an exchange with this pivot, or its cost does not fit there.
+fn level_by(
+    alloc: Global,
+    exchange: LineExchange<'_>,
+    pivot: &Pivot,
+    row: LevelRow<'_>,
+) -> Result<LevelSum, SumStop>
+    requires exchange { IsSizedExchange exchange }
+    requires pivot { IsPivotFor exchange pivot.now }
+    requires place { row.place < length exchange.corner.outline.now.levels.items }
+    requires sum { IsSizedLevel (length exchange.corner.lines.now) row.sum.now }
+    ensures sized { IfOk result (IsSizedLevel (length exchange.entry.corner.lines.now)) }
+    ensures next { IfOk result (λ next. WithRow exchange.entry.corner row.entry
+        (AfterStep exchange.entry.step
+        (λ p at. IsSumAt p at exchange.entry.corner.outline.now row.entry.place next))) }
+    ensures unfit { IfErr result (λ stop. IsRefused stop
+        → WithRow exchange.entry.corner row.entry
+        (AfterStep exchange.entry.step (HasNoSumAt exchange.entry.corner.outline.now row.entry.place))) }
+{
+    let wide = next_level_numbers(alloc, exchange.corner.outline, pivot, row)?;
+    let numbers = in_lowest_terms(alloc, &wide)?;
+    let cost = cost_after(
+        &exchange.corner.outline.lines[exchange.step.enter.at],
+        pivot,
+        row,
+    )?;
+    let next = level_with(row.sum.unit, numbers, cost);
+    let next_row = LevelRow {
+        place: row.place,
+        sum: &next,
+    };
+    if !level_fits(exchange.corner, pivot, next_row) {
+        return Err(Stop::Refused(Unfit));
+    }
+    Ok(next)
+}
+
 /// The row of the level at a place after an exchange, or its cost does not fit there.
 pub fn next_level(
     alloc: Global,
@@ -185,46 +222,82 @@ pub fn next_level(
         (AfterStep exchange.entry.step (HasNoSumAt exchange.entry.corner.outline.now row.entry.place))) }
 {
     let pivot = pivot_of(alloc, exchange.corner.lines, exchange.step)?;
-    let wide = next_level_numbers(alloc, exchange.corner.outline, &pivot, row)?;
-    let numbers = in_lowest_terms(alloc, &wide)?;
-    let cost = cost_after(
-        &exchange.corner.outline.lines[exchange.step.enter.at],
-        &pivot,
-        row,
-    )?;
-    let next = level_with(row.sum.unit, numbers, cost);
-    let next_row = LevelRow {
-        place: row.place,
-        sum: &next,
-    };
-    if !level_fits(exchange.corner, &pivot, next_row) {
-        return Err(Stop::Refused(Unfit));
+    level_by(alloc, exchange, &pivot, row)
+}
+
+// Whether an exchange with this pivot may change the row of the level at a place.
+fn is_touched(exchange: LineExchange<'_>, pivot: &Pivot, row: LevelRow<'_>) -> bool
+    requires exchange { IsSizedExchange exchange }
+    requires pivot { IsPivotFor exchange pivot.now }
+    requires place { row.place < length exchange.corner.outline.now.levels.items }
+    requires sum { IsSizedLevel (length exchange.corner.lines.now) row.sum.now }
+    ensures { result ≡ false → WithRow exchange.entry.corner row.entry (AfterStep exchange.entry.step
+        (λ p at. IsSumAt p at exchange.entry.corner.outline.now row.entry.place row.entry.sum.now)) }
+{
+    let step = pivot.step;
+    let lines = &exchange.corner.outline.lines;
+    if lines[step.enter.at].level == row.place {
+        return true;
     }
-    Ok(next)
+    if lines[step.leave.at].level == row.place {
+        return true;
+    }
+    number_of(&row.sum.by, step.enter.at) != 0
+}
+
+// The rows of all levels after an exchange with this pivot: those that it doesn't touch stay as they are.
+fn levels_by(
+    alloc: Global,
+    exchange: LineExchange<'_>,
+    pivot: &Pivot,
+    levels: Vec<LevelSum>,
+) -> Result<Vec<LevelSum>, SumStop>
+    requires exchange { IsSizedExchange exchange }
+    requires pivot { IsPivotFor exchange pivot.now }
+    requires levels { AreSizedLevels (length exchange.corner.lines.now) levels.items }
+    requires level_count { length levels.items ≡ length exchange.corner.outline.now.levels.items }
+    ensures sized { IfOk result (λ next. AreSizedLevels (length exchange.entry.corner.lines.now) next.items) }
+    ensures level_count { IfOk result
+        (λ next. length next.items ≡ length exchange.entry.corner.outline.now.levels.items) }
+    ensures next { IfOk result (λ next. WithLevels exchange.entry.corner levels.items
+        (AfterStep exchange.entry.step
+        (λ p at. AreLevels p at exchange.entry.corner.outline.now next.items))) }
+    ensures unfit { IfErr result (λ stop. IsRefused stop
+        → WithLevels exchange.entry.corner levels.items
+        (AfterStep exchange.entry.step HasUnfitLevel)) }
+{
+    let mut out = levels;
+    for place in 0..out.len() {
+        let row = LevelRow {
+            place,
+            sum: &out[place],
+        };
+        if is_touched(exchange, pivot, row) {
+            out[place] = level_by(alloc, exchange, pivot, row)?;
+        }
+    }
+    Ok(out)
 }
 
 /// The rows of all levels after an exchange, or the cost of one of them does not fit there.
 pub fn next_levels(
     alloc: Global,
     exchange: LineExchange<'_>,
-    levels: &[LevelSum],
+    levels: Vec<LevelSum>,
 ) -> Result<Vec<LevelSum>, SumStop>
     requires exchange { IsSizedExchange exchange }
-    requires levels { AreSizedLevels (length exchange.corner.lines.now) levels.now }
-    requires level_count { length levels.now ≡ length exchange.corner.outline.now.levels.items }
+    requires levels { AreSizedLevels (length exchange.corner.lines.now) levels.items }
+    requires level_count { length levels.items ≡ length exchange.corner.outline.now.levels.items }
     ensures sized { IfOk result (λ next. AreSizedLevels (length exchange.entry.corner.lines.now) next.items) }
     ensures level_count { IfOk result
         (λ next. length next.items ≡ length exchange.entry.corner.outline.now.levels.items) }
-    ensures next { IfOk result (λ next. WithLevels exchange.entry.corner levels.now
+    ensures next { IfOk result (λ next. WithLevels exchange.entry.corner levels.items
         (AfterStep exchange.entry.step
         (λ p at. AreLevels p at exchange.entry.corner.outline.now next.items))) }
     ensures unfit { IfErr result (λ stop. IsRefused stop
-        → WithLevels exchange.entry.corner levels.now
+        → WithLevels exchange.entry.corner levels.items
         (AfterStep exchange.entry.step HasUnfitLevel)) }
 {
-    let mut out = Vec::with_capacity(alloc, levels.len())?;
-    for (place, sum) in levels.iter().enumerate() {
-        out.push(next_level(alloc, exchange, LevelRow { place, sum })?)?;
-    }
-    Ok(out)
+    let pivot = pivot_of(alloc, exchange.corner.lines, exchange.step)?;
+    levels_by(alloc, exchange, &pivot, levels)
 }

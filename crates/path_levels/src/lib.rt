@@ -21,6 +21,8 @@
 //! own number are above 0, and their product is below 2^42. Want of room is never silent: a row is refused
 //! only where no writing of it fits.
 //!
+//! It is the levels' part of one unit in three crates: all that is public here is for `path_claims` alone.
+//!
 //! In reading order: `outline` (lines and levels in order), `sums` (a level's row), `tableau` (a corner's
 //! lines and levels), `rows` (levels line by line, by `joins` and `stays`), `levels_after` (rows after an
 //! exchange, by `pivots`, `moved`, `carried`, `shares`), `columns`, `columns_after` (signs), `ends` (what is

@@ -11,7 +11,7 @@ ghost use Rattle.path_levels.specs.Exchanges.Pivots.{IsExchangePivot, IsSizedPiv
 ghost use Rattle.path_levels.specs.Kept.{WithLines};
 
 use frac_core::{OutOfMemory, Stop, Unfit};
-use path_checker::{Inside, Pivot, Step, Sum, SumStop, solving, stands};
+use path_checker::{Inside, Pivot, Step, Sum, SumStop, solved_from};
 use std::alloc::Global;
 
 // The list with another number at the place.
@@ -59,10 +59,7 @@ fn pivot_from(alloc: Global, sum: &Sum, step: Step) -> Result<Pivot, SumStop>
     if step.enter.at == step.leave.at {
         return Ok(turning(alloc, sum, step)?);
     }
-    if !stands(&sum.by, step.enter.at) {
-        return Err(Stop::Refused(Unfit));
-    }
-    Ok(solving(alloc, sum, step)?)
+    solved_from(alloc, sum, step)
 }
 
 /// The pivot of an exchange, of two lines or of the two marks of one. Unfit where it is none.

@@ -1,5 +1,5 @@
 -- The lines' equations at the next corner, and when one does not fit.
-use Rattle.std.proofs.Common.{◌≡◌, ◌≢◌, ◌∙◌, ℕ, ◌*◌, ◌<◌, List, length, ℤ, pos, negsuc, ◌*ℤ◌, ◌<ℤ◌, unsigned_abs, refl, sym, ap, subst, subst₂, arith, inl, inr}
+use Rattle.std.proofs.Common.{◌≡◌, ◌≢◌, ◌∙◌, ◌↔◌, Bool, false, IsTrue, ℕ, zero, suc, ◌*◌, ◌<◌, List, get_or, length, ℤ, pos, negsuc, ◌*ℤ◌, ◌<ℤ◌, unsigned_abs, refl, sym, ap, subst, subst₂, arith, inl, inr}
 use Rattle.std.proofs.lemmas.List.{length-map}
 use borrow.Author.Differences.{ints}
 use Rattle.frac_core.proofs.Integers.{mul_positive}
@@ -30,7 +30,8 @@ use Rattle.path_checker.proofs.Exchanges.CarriedSums.{carried_line_sum}
 use Rattle.path_checker.proofs.Exchanges.EnteringLine.{entering_is_equation, entering_line_sum}
 use Rattle.path_checker.proofs.Exchanges.Exchanging.{one_side}
 use Rattle.path_checker.proofs.Arithmetic.NumbersOf.{reduced_numbers}
-use Rattle.path_checker.proofs.Places.{mark_is_there, names_differ, number_there}
+use Rattle.path_checker.proofs.Iffs.{wrong_then}
+use Rattle.path_checker.proofs.Places.{mark_is_there, name_there, names_differ, number_there}
 use Rattle.path_checker.proofs.Arithmetic.Unfits.{unfit_list_is_unfit}
 use Rattle.frac_core.proofs.Numbers.{pos-size as up, product-up as positive_product}
 use Rattle.frac_core.proofs.Divisors.{size_above as some_up}
@@ -243,3 +244,27 @@ entering_value_unfit p at pivot is unfit =
     (next_there p at pivot is) (enter_in (swap_of p pivot.step) at is.exchange.leaves)
     (line_sum p (next_marks p pivot at) (deviation (name_at p pivot.step.enter.at)) (unsigned_abs pivot.size) (without (name_at p pivot.step.enter.at) (numbers_of (lines p) pivot.by.items)) (sum_num zero_fraction pivot.times pivot.size pivot.value) (unsigned_abs (sum_den zero_fraction pivot.size pivot.value)) solved.equation)
     (λ low part value reduced ratio low_fits part_fit kept. unfit value kept.lowest (subst (λ (z : ℤ). IsRatio value (sum_num zero_fraction pivot.times pivot.size pivot.value) z) same ratio) kept.fits)
+
+-- ---- lines that an exchange leaves alone
+
+pub untouched_sum : (p : Problem) (at : List Mark) (pivot : Pivot) (name : RowName) (sum : Sum) → IsPivotAt p at pivot → number_at sum.by.items pivot.step.enter.at ≡ pos 0 → IsSumOf p at name sum → IsSumOf p (next_marks p pivot at) name sum
+untouched_sum p at pivot name sum is none old = record {
+  sized = old.sized;
+  equation = record {
+    own_positive = old.equation.own_positive;
+    den_positive = old.equation.den_positive;
+    outside = λ k d within stood.
+        let there : (get_or (lines p) k d).name ≡ name_at p k = name_there p k d within in
+        subst (λ (n : RowName). IsOutsideLine (next_marks p pivot at) n) (sym there)
+        (still_outside p at pivot k is within
+        (λ same. stood (ap (numbers_of (lines p) sum.by.items) (there ∙ ap (λ (j : ℕ). name_at p j) same) ∙ number_there p sum.by.items pivot.step.enter.at is.there.whole old.sized.count_is is.enter_at ∙ none))
+        (subst (λ (n : RowName). IsOutsideLine at n) there (old.equation.outside k d within stood)));
+    holds = old.equation.holds;
+    lowest = old.equation.lowest;
+  };
+}
+
+pub zero_then : (b : Bool) (z : ℤ) → b ≡ false → IsTrue b ↔ (z ≢ pos 0) → z ≡ pos 0
+zero_then b (pos zero) e f = refl
+zero_then b (pos (suc n)) e f = absurd (wrong_then b e f (λ h. omega (arith, ints, h)))
+zero_then b (negsuc n) e f = absurd (wrong_then b e f (λ h. omega (arith, ints, h)))

@@ -122,3 +122,10 @@ LeadToUnfit step kept = (p : Problem) (at : List Mark) → IsThere p at → AreL
 abbrev pub IsLeavingBy : Step → List (Option Inside) → Sum → Type 0
 IsLeavingBy step kept leaving = (inside : Inside) × (inside.sum ≡ leaving) × (step.enter.at ≢ step.leave.at)
     × (step.leave.at < length kept) × ((d : Option Inside) → get_or kept step.leave.at d ≡ Some inside)
+
+-- it is solved from the leaving line's sum
+pub record IsPivotBy (step : Step) (kept : List (Option Inside)) (pivot : Pivot) : Type 0 where
+  pub leaving : Sum
+  pub left : IsLeavingBy step kept leaving
+  pub solved : IsSolvedFrom leaving step pivot
+  pub count : length pivot.by.items ≡ length kept

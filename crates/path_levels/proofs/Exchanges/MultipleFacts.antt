@@ -95,7 +95,7 @@ enter_out p at pivot is apart = has_number_out p at pivot pivot.step.enter.at is
 -- ---- the row before
 
 -- the full row of the level, at a line inside
-stood_there : (p : Problem) (at : List Mark) (outline : Outline) (place : ℕ) (sum : LevelSum) (k : ℕ) (side : Side) (f : LineFacts) (d : LevelFacts) → IsOutline p outline → (is : IsLevelSum p at (number_at outline.levels.items place) sum) → place < length outline.levels.items → k < line_count p
+pub stood_there : (p : Problem) (at : List Mark) (outline : Outline) (place : ℕ) (sum : LevelSum) (k : ℕ) (side : Side) (f : LineFacts) (d : LevelFacts) → IsOutline p outline → (is : IsLevelSum p at (number_at outline.levels.items place) sum) → place < length outline.levels.items → k < line_count p
     → f ≡ get_or outline.lines.items k f → IsIn (place_of (name_at p k) side) at → is.there.row.by (name_at p k) ≡ stood_of f side place sum
 stood_there p at outline place sum k side f d outline_is is within inside f_is i =
     let there : (get_or (lines p) k any_line).name ≡ name_at p k = name_there p k any_line inside in
@@ -106,7 +106,7 @@ stood_there p at outline place sum k side f d outline_is is within inside f_is i
     ∙ sym (stood_line side p outline.levels.items place (get_or (lines p) k any_line) f d sum outline_is.levels_are within facts))
 
 -- and at one outside
-number_outside : (p : Problem) (at : List Mark) (level : ℕ) (sum : LevelSum) (k : ℕ) → (is : IsLevelSum p at level sum) → k < line_count p → IsOutsideLine at (name_at p k) → is.there.row.by (name_at p k) ≡ numbers_of (lines p) sum.by.items (name_at p k)
+pub number_outside : (p : Problem) (at : List Mark) (level : ℕ) (sum : LevelSum) (k : ℕ) → (is : IsLevelSum p at level sum) → k < line_count p → IsOutsideLine at (name_at p k) → is.there.row.by (name_at p k) ≡ numbers_of (lines p) sum.by.items (name_at p k)
 number_outside p at level sum k is within out =
     let there : (get_or (lines p) k any_line).name ≡ name_at p k = name_there p k any_line within in
     subst (λ (n : RowName). is.there.row.by n ≡ numbers_of (lines p) sum.by.items n) there (is.there.row.outside k any_line within (subst (λ (n : RowName). IsOutsideLine at n) (sym there) out))
@@ -191,13 +191,11 @@ inside_at p at level sum pivot factors leaving wide k is turn carried inside =
           ]
     ]
 
-pub multiple_at : (p : Problem) (at : List Mark) (outline : Outline) (place : ℕ) (sum : LevelSum) (pivot : Pivot) (factors : Factors) (n leaving : ℤ) (wide : Wide) (enter leave : LineFacts) (d : LevelFacts) → place < length outline.levels.items
-    → enter ≡ get_or outline.lines.items pivot.step.enter.at enter → leave ≡ get_or outline.lines.items pivot.step.leave.at leave → n ≡ entering_of enter pivot place sum → AreSharing pivot.size n factors
-    → leaving ≡ factors.row *ℤ stood_of leave pivot.step.leave.side place sum +ℤ in_list pivot.by.items pivot.step.leave.at *ℤ factors.pivot → IsCarriedBy pivot sum factors leaving wide
-    → IsOutline p outline → IsExchangePivot p at pivot → IsLevelSum p at (number_at outline.levels.items place) sum → IsMultipleAt p (next_marks p pivot at) (number_at outline.levels.items place) sum.unit wide
-multiple_at p at outline place sum pivot factors n leaving wide enter leave d within enter_is leave_is n_is sharing leaving_is carried outline_is turn is =
-    let long : length wide.by.items ≡ line_count p = carried.count ∙ is.sized.count_is in
-    let changes : Each (λ l. l.name ≡ name_at p pivot.step.enter.at → n ≡ is.there.row.by l.name -ℤ inside_number pivot.step.enter.side (number_at outline.levels.items place) (unsigned_abs sum.unit) (unsigned_abs sum.own) l) (lines p) =
+-- by what the entering line's number changes
+pub entering_changes : (p : Problem) (at : List Mark) (outline : Outline) (place : ℕ) (sum : LevelSum) (pivot : Pivot) (n : ℤ) (enter : LineFacts) (d : LevelFacts) → place < length outline.levels.items → enter ≡ get_or outline.lines.items pivot.step.enter.at enter → n ≡ entering_of enter pivot place sum
+    → IsOutline p outline → IsExchangePivot p at pivot → (is : IsLevelSum p at (number_at outline.levels.items place) sum)
+    → Each (λ l. l.name ≡ name_at p pivot.step.enter.at → n ≡ is.there.row.by l.name -ℤ inside_number pivot.step.enter.side (number_at outline.levels.items place) (unsigned_abs sum.unit) (unsigned_abs sum.own) l) (lines p)
+entering_changes p at outline place sum pivot n enter d within enter_is n_is outline_is turn is =
     recursion_from_All (λ l. l.name ≡ name_at p pivot.step.enter.at → n ≡ is.there.row.by l.name -ℤ inside_number pivot.step.enter.side (number_at outline.levels.items place) (unsigned_abs sum.unit) (unsigned_abs sum.own) l) (lines p)
     (λ k x inside same.
     let here : k ≡ pivot.step.enter.at = place_is p k pivot.step.enter.at turn inside turn.sized.enter_at (sym (name_there p k x inside) ∙ same) in
@@ -205,7 +203,23 @@ multiple_at p at outline place sum pivot factors n leaving wide enter leave d wi
     subst (IsFactsOf outline.levels.items (get_or (lines p) k x)) (ap (λ (j : ℕ). get_or outline.lines.items j enter) here ∙ sym enter_is) (facts_at outline.levels.items (lines p) outline.lines.items k x enter outline_is.lines_are inside) in
     n_is
     ∙ ap₂ ◌-ℤ◌ (sym (before_is p at outline place sum pivot enter d outline_is is within turn enter_is) ∙ ap is.there.row.by (sym same))
-    (stood_line pivot.step.enter.side p outline.levels.items place (get_or (lines p) k x) enter d sum outline_is.levels_are within facts)) in
+    (stood_line pivot.step.enter.side p outline.levels.items place (get_or (lines p) k x) enter d sum outline_is.levels_are within facts))
+  where
+    place_is : (p : Problem) (k e : ℕ) → IsExchangePivot p at pivot → k < line_count p → e < line_count p → name_at p k ≡ name_at p e → k ≡ e
+    place_is p k e turn here there same =
+        elim (cases_eq k e) [
+          | inl yes_same ↦ yes_same
+          | inr ne ↦ absurd (names_differ p k e turn.there.whole here there ne same)
+        ]
+
+pub multiple_at : (p : Problem) (at : List Mark) (outline : Outline) (place : ℕ) (sum : LevelSum) (pivot : Pivot) (factors : Factors) (n leaving : ℤ) (wide : Wide) (enter leave : LineFacts) (d : LevelFacts) → place < length outline.levels.items
+    → enter ≡ get_or outline.lines.items pivot.step.enter.at enter → leave ≡ get_or outline.lines.items pivot.step.leave.at leave → n ≡ entering_of enter pivot place sum → AreSharing pivot.size n factors
+    → leaving ≡ factors.row *ℤ stood_of leave pivot.step.leave.side place sum +ℤ in_list pivot.by.items pivot.step.leave.at *ℤ factors.pivot → IsCarriedBy pivot sum factors leaving wide
+    → IsOutline p outline → IsExchangePivot p at pivot → IsLevelSum p at (number_at outline.levels.items place) sum → IsMultipleAt p (next_marks p pivot at) (number_at outline.levels.items place) sum.unit wide
+multiple_at p at outline place sum pivot factors n leaving wide enter leave d within enter_is leave_is n_is sharing leaving_is carried outline_is turn is =
+    let long : length wide.by.items ≡ line_count p = carried.count ∙ is.sized.count_is in
+    let changes : Each (λ l. l.name ≡ name_at p pivot.step.enter.at → n ≡ is.there.row.by l.name -ℤ inside_number pivot.step.enter.side (number_at outline.levels.items place) (unsigned_abs sum.unit) (unsigned_abs sum.own) l) (lines p) =
+    entering_changes p at outline place sum pivot n enter d within enter_is n_is outline_is turn is in
     record {
       by = sum_by (unsigned_abs factors.row) is.there.row.by factors.pivot (numbers_of (lines p) pivot.by.items);
       multiple =
@@ -225,13 +239,6 @@ multiple_at p at outline place sum pivot factors n leaving wide enter leave d wi
             | inr zero ↦ inr (at_place (lines p) wide.by.items k x (lines_apart p turn.there.whole) long inside ∙ zero)
           ];
     }
-  where
-    place_is : (p : Problem) (k e : ℕ) → IsExchangePivot p at pivot → k < line_count p → e < line_count p → name_at p k ≡ name_at p e → k ≡ e
-    place_is p k e turn here there same =
-        elim (cases_eq k e) [
-          | inl yes_same ↦ yes_same
-          | inr ne ↦ absurd (names_differ p k e turn.there.whole here there ne same)
-        ]
 
 abbrev pub any_level : LevelFacts
 any_level = record { level = Priority 0; number = 0 }

@@ -6,7 +6,7 @@ use Rattle.std.proofs.lemmas.Int.{ints, unsigned_abs-mul}
 use Rattle.std.proofs.lemmas.List.Elements.{All-from_recursion, All-map, recursion_from_All}
 use Rattle.std.proofs.lemmas.Nat.Gcd.{dvd-zero}
 use Rattle.frac_core.proofs.Integers.{mul-zero_ℤ, sign_cases, zero_from_mul}
-use Rattle.frac_core.specs.Fraction.{Fraction, IsFitting, IsUnfitRatio}
+use Rattle.frac_core.specs.Fraction.{Fraction, IsFitting, IsRatio, IsUnfitRatio}
 use Rattle.problem_core.specs.declared.parts.Mark.{Mark}
 use Rattle.problem_core.specs.Layout.{Line, Problem, lines}
 use Rattle.problem_core.specs.Corners.{IsExchange, exchanged}
@@ -224,10 +224,10 @@ number_fits p at outline place sum pivot f within f_is outline_is turn is =
     ]
 
 pub next_cost : (p : Problem) (at : List Mark) (outline : Outline) (place : ℕ) (sum : LevelSum) (pivot : Pivot) (f : LineFacts) (cost : Fraction) → place < length outline.levels.items → f ≡ get_or outline.lines.items pivot.step.enter.at f → IsOutline p outline → IsExchangePivot p at pivot
-    → IsLevelSum p at (number_at outline.levels.items place) sum → IsMovedCost (entering_of f pivot place sum) pivot sum cost → IsCostAt p (next_marks p pivot at) (number_at outline.levels.items place) cost
+    → IsLevelSum p at (number_at outline.levels.items place) sum → IsRatio cost (moved_num (entering_of f pivot place sum) pivot sum) (moved_den pivot sum) → IsCostAt p (next_marks p pivot at) (number_at outline.levels.items place) cost
 next_cost p at outline place sum pivot f cost within f_is outline_is turn is moved =
     let there = turn.deviation_is (entered pivot) (entered_is pivot turn.sized.above turn.value_den) in
-    let step = cost_step (entering_of f pivot place sum) pivot sum cost turn.sized.above (scale_above p at (number_at outline.levels.items place) sum is) is.there.lowest.above turn.value_den moved.ratio in
+    let step = cost_step (entering_of f pivot place sum) pivot sum cost turn.sized.above (scale_above p at (number_at outline.levels.items place) sum is) is.there.lowest.above turn.value_den moved in
     elim (cases_Bool pivot.is_turn) [
       | inl one ↦
           turned_cost_is_cost p at (swap_of p pivot.step) (number_at outline.levels.items place) (unsigned_abs sum.unit) (unsigned_abs sum.own) (unsigned_abs pivot.size) (numbers_of (lines p) sum.by.items) (numbers_of (lines p) pivot.by.items) (entering_of f pivot place sum)
@@ -272,7 +272,7 @@ there_next p at outline place sum pivot f wide next within f_is outline_is turn 
       rays = there.rays;
       unit_is = is.there.unit_is;
       row = lowest_row p (next_marks p pivot at) (number_at outline.levels.items place) sum.unit wide next.own next.by.items there count multiple made.lowest;
-      cost_is = next_cost p at outline place sum pivot f next.cost within f_is outline_is turn is made.cost;
+      cost_is = next_cost p at outline place sum pivot f next.cost within f_is outline_is turn is made.cost.ratio;
       lowest = made.cost.kept.lowest;
     })
 

@@ -17,7 +17,9 @@ use Rattle.path_checker.specs.Numbers.{AreFitting}
 use Rattle.path_checker.specs.Exchanges.Pivots.{IsEnteredBy, IsPivotAt, next_marks}
 use Rattle.path_checker.specs.Tables.{IsThere, line_count, name_at, numbers_of, swap_of}
 use Rattle.path_levels.specs.declared.outline.Outline.{Outline}
+use Rattle.path_levels.specs.declared.levels_after.LineExchange.{LineExchange}
 use Rattle.path_levels.specs.declared.sums.LevelSum.{LevelSum}
+use Rattle.path_levels.specs.Kept.{WithLines}
 use Rattle.path_levels.specs.Outlines.{IsOutline, number_at}
 use Rattle.path_levels.specs.Levels.{IsSumAt}
 
@@ -52,6 +54,13 @@ pub record IsExchangePivot (p : Problem) (at : List Mark) (pivot : Pivot) : Type
   pub deviation_is : (enters : Fraction) → IsEnteredBy pivot enters
       → HasDeviation p (next_marks p pivot at) (name_at p pivot.step.enter.at) enters
   pub of_lines : pivot.is_turn ≡ false → IsPivotAt p at pivot
+
+-- it is the pivot of the exchange, wherever that can be made
+pub record IsPivotFor (exchange : LineExchange) (pivot : Pivot) : Type 0 where
+  pub step_is : pivot.step ≡ exchange.step
+  pub sized : IsSizedPivot (length exchange.corner.lines.now) pivot
+  pub gives : WithLines exchange.corner.lines.now
+      (λ p at. IsExchange p at (swap_of p exchange.step) → IsExchangePivot p at pivot)
 
 -- ---- a level's row before it is divided
 

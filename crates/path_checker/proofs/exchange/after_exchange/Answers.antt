@@ -1,8 +1,10 @@
-use Rattle.std.proofs.Common.{◌≡◌, ◌∙◌, ◌++◌, List, Option, take, drop, length, rules, subst, true, false}
+use Rattle.std.proofs.Common.{◌≡◌, ◌∙◌, ◌++◌, List, Option, take, drop, length, rules, subst, true}
+use Rattle.std.proofs.lemmas.Result.{err_from_is_err_and}
+use Rattle.path_checker.specs.declared.spots.Step.{Step}
 use Rattle.path_checker.specs.declared.table.Inside.{Inside}
 use Rattle.path_checker.specs.Tables.{IsTurned}
 use Rattle.path_checker.specs.Exchanges.Pivots.{LeadTo, LeadToUnfit}
-use Rattle.path_checker.proofs.Iffs.{right_then, wrong_then}
+use Rattle.path_checker.proofs.Iffs.{right_then}
 use Rattle.path_checker.proofs.Exchanges.Leading.{err_then, ok_then, turn_leads, turned_sized}
 use Rattle.path_checker.proofs.MarkSides.Walks.{settled}
 use Rattle.path_checker.proofs.exchange.after_exchange.Goals as goal
@@ -24,16 +26,19 @@ returns-then-is_turn-clause-sized c =
     subst (λ (ls : List (Option Inside)). IsTurned c.args.step.enter.at c.args.step.enter.side ls c.turn.new.lines) c.deref_mut.ensures.value c.turn.ensures in
     rw whole (turned_sized c.args.step.enter.at c.args.step.enter.side c.args.lines.items c.turn.new.lines is c.requires.sized)
 
+pub returns-in_err-pivot-clause-unfit : goal.returns-in_err-pivot-clause-unfit
+returns-in_err-pivot-clause-unfit c =
+    let exit = err_from_is_err_and c.from_residual.result c.from_residual.ensures.1 in
+    rw (exit.1, exit.2) (λ same. subst (λ (ls : List (Option Inside)). LeadToUnfit c.args.step ls) c.deref.ensures.value (c.in_err-pivot.ensures.unfit same))
+
 pub returns-clause-next : goal.returns-clause-next
 returns-clause-next c =
-    let down : c.is_turn.result ≡ false = search rules in
-    ok_then c.solved_at.result
-    (λ next leads. subst (λ (ls : List (Option Inside)). LeadTo c.args.step ls next.items) c.deref.ensures.value (leads (λ same. wrong_then c.is_turn.result down c.is_turn.ensures same)))
-    c.solved_at.ensures.next
+    ok_then c.solved_lines.result
+    (λ next leads. subst (λ (t : Step). LeadTo t c.args.lines.items next.items) c.in_ok-pivot.ensures.pivot.solved.step_is leads)
+    c.solved_lines.ensures.next
 
 pub returns-clause-unfit : goal.returns-clause-unfit
 returns-clause-unfit c =
-    let down : c.is_turn.result ≡ false = search rules in
-    err_then c.solved_at.result
-    (λ stop leads stops. subst (λ (ls : List (Option Inside)). LeadToUnfit c.args.step ls) c.deref.ensures.value (leads stops (λ same. wrong_then c.is_turn.result down c.is_turn.ensures same)))
-    c.solved_at.ensures.unfit
+    err_then c.solved_lines.result
+    (λ stop leads same. subst (λ (t : Step). LeadToUnfit t c.args.lines.items) c.in_ok-pivot.ensures.pivot.solved.step_is (leads same))
+    c.solved_lines.ensures.unfit

@@ -1,6 +1,8 @@
 use Rattle.std.proofs.Common.{◌≡◌, ◌<◌, ◌^◌, ℕ, [], pos, sym, subst, arith, take, SFits, rules, to_z, of_z}
 use Rattle.std.specs.Prelude.{unsigned_abs, slice_index_or}
-use Rattle.std.specs.Int.{w128, IsGcd}
+use Rattle.std.specs.Int.{◌∣◌, w128, IsGcd}
+use Rattle.std.proofs.Math.Nat.{one-dvd}
+use Rattle.std.proofs.lemmas.List.Elements.{All-take}
 use Rattle.std.proofs.lemmas.Int.{to_z-of_z}
 use Rattle.std.proofs.lemmas.List.{take_all}
 use Rattle.path_checker.proofs.Arithmetic.LowestTerms.{IsDivisorSoFar, divisor_starts, divisor_more}
@@ -34,3 +36,12 @@ returns-clause-greatest c =
     let whole : take c.loop-number.number-index c.args.by.now ≡ c.args.by.now = take_all c.loop-number.number-index c.args.by.now (omega (arith, c.loop-number-test.false)) in
     let own : to_z w128 (of_z w128 c.args.own) ≡ c.args.own = to_z-of_z w128 c.args.own c.ranges.own in
     (rw (own, whole) at c.loop-number.invariant.greatest)
+
+pub returns-then-divisor-eq1-clause-divides : goal.returns-then-divisor-eq1-clause-divides
+returns-then-divisor-eq1-clause-divides c = (one-dvd (unsigned_abs c.args.own), λ k d within. one-dvd (unsigned_abs (slice_index_or c.args.by.now k d)))
+
+pub returns-then-divisor-eq1-clause-greatest : goal.returns-then-divisor-eq1-clause-greatest
+returns-then-divisor-eq1-clause-greatest c =
+    let own : to_z w128 (of_z w128 c.args.own) ≡ c.args.own = to_z-of_z w128 c.args.own c.ranges.own in
+    let before : IsDivisorSoFar c.args.own (take c.loop-number.number-index c.args.by.now) c.loop-number.divisor = rw own at c.loop-number.invariant in
+    λ k divides. subst (λ (n : ℕ). k ∣ n) c.if-divisor-eq1.true (before.greatest k (divides.0, All-take (λ z. k ∣ unsigned_abs z) c.loop-number.number-index c.args.by.now divides.1))

@@ -6,6 +6,6 @@ use Rattle.session_undo.proofs.session.Session.new.Goals as goal
 
 pub returns : goal.returns
 returns c = (
-  c.in_ok-scene.ensures.corner,
-  ap (λ (h : History). (let s : State = record { scene = h.scene; earlier = h.earlier; budget = FIRST_BUDGET; limits = first_limits } in s)) c.in_ok-scene.ensures.first,
+  c.in_ok-new.ensures.corner,
+  ap (λ (h : History). (let s : State = record { scene = h.scene; earlier = h.earlier; budget = FIRST_BUDGET; limits = first_limits } in s)) c.in_ok-new.ensures.first,
 )
