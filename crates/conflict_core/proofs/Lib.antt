@@ -1,0 +1,12 @@
+pub mod Among
+pub mod TrialRows
+pub mod Refuting
+pub mod TrialWhole
+pub mod TrialAdds
+pub mod OwnRows
+pub mod Naming
+pub mod Narrowing
+pub mod EngineValues
+pub mod Outcomes
+pub mod CoreLaws
+pub mod CoreExamples

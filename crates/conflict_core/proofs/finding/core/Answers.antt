@@ -1,0 +1,8 @@
+use Rattle.std.proofs.Common.{◌∙◌}
+use Rattle.conflict_core.proofs.finding.core.Goals as goal
+
+pub found_anew-requires-clause-trials : goal.found_anew-requires-clause-trials
+found_anew-requires-clause-trials c = record { attrs = c.deref.ensures.value ∙ c.in_ok-attrs.ensures; rising = c.requires.rising }
+
+pub found_anew-requires-clause-all : goal.found_anew-requires-clause-all
+found_anew-requires-clause-all c = c.deref-2.ensures.value ∙ c.in_ok-all.ensures

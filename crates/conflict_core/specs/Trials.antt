@@ -1,0 +1,40 @@
+-- Trials: what becomes of some required rows on an engine that holds nothing.
+use Rattle.std.specs.Prelude.{ℕ, ◌<◌, false, List, [], AllPairs}
+use Rattle.problem_core.specs.Layout.{Problem}
+use Rattle.cert_core.specs.Stops.{IsShownConflict, IsStopOf}
+use Rattle.cert_core.specs.declared.stops.RunStop.{RunStop}
+use Rattle.cert_core.specs.declared.stops.RunStop.TheVariants as run
+use Rattle.corner.specs.Changes.{FromAdded}
+use Rattle.layout_solver.specs.Layouts.{Layout}
+use Rattle.conflict_core.specs.Cores.{AreRequired, trial}
+use Rattle.conflict_core.specs.Shown.{IsSolution}
+use Rattle.conflict_core.specs.declared.found.CoreStop.{CoreStop}
+use Rattle.conflict_core.specs.declared.found.CoreStop.TheVariants.{Unfit, Spent, OutOfMemory}
+use Rattle.conflict_core.specs.declared.trials.Outcome.{Outcome}
+use Rattle.conflict_core.specs.declared.trials.Outcome.TheVariants.{Solved, Refuted}
+
+-- the layout of no attribute and no row, as an engine is made
+abbrev pub nothing : Layout
+nothing = record { problem = record { rows = []; stays = [] }; values = []; corner = []; earlier = [] }
+
+-- the stays come by rising attribute, as an engine takes them
+abbrev pub HasRisingStays : Problem → Type 0
+HasRisingStays p = AllPairs (λ s t. s.attr < t.attr) p.stays
+
+-- the rows of these numbers come to values that satisfy them, or to multipliers that refute them
+abbrev pub IsOutcome : Problem → List ℕ → Outcome → Type 0
+IsOutcome p ids (Solved values) = IsSolution (trial p ids) values
+IsOutcome p ids (Refuted by) = IsShownConflict (trial p ids) by
+
+-- so stops what adds all attributes and the rows of these numbers to an engine that holds nothing
+abbrev pub IsStopOfTrial : Problem → List ℕ → ℕ → RunStop → Type 0
+IsStopOfTrial p ids budget stop =
+    IsStopOf false (trial p ids) [] (FromAdded (trial p ids) [] (trial p ids).rows) budget stop
+
+-- so stops the trial of the required rows that are held; or memory is wanting
+abbrev pub IsCoreStop : Problem → ℕ → CoreStop → Type 0
+IsCoreStop p budget (Unfit held at) = AreRequired p held.items
+    × IsStopOfTrial p held.items budget (run.Unfit at)
+IsCoreStop p budget (Spent held path) = AreRequired p held.items
+    × IsStopOfTrial p held.items budget (run.Spent path)
+IsCoreStop p budget OutOfMemory = Unit {0}

@@ -1,0 +1,106 @@
+// What the required rows of a problem come to.
+ghost use Rattle.std.specs.Prelude.{◌≡◌, ℕ, List, map, IfOk, IfErr};
+ghost use Rattle.problem_core.specs.Certificates.{required};
+ghost use Rattle.cert_core.specs.Stops.{IsShownConflict};
+ghost use Rattle.conflict_core.specs.Cores.{trial};
+ghost use Rattle.conflict_core.specs.Shown.{IsFound};
+ghost use Rattle.conflict_core.specs.Searches.{AreTrials};
+ghost use Rattle.conflict_core.specs.Trials.{HasRisingStays, IsCoreStop, nothing};
+
+use crate::found::{CoreStop, Found};
+use crate::listing::{attributes, required_rows};
+use crate::search::{begun, searched};
+use crate::trials::{Outcome, Trials, tried};
+use cert_core::Conflict;
+use layout_solver::Engine;
+use problem_core::Problem;
+use std::alloc::Global;
+
+// A core of the rows that these multipliers name, which refute some required rows.
+fn found_among(alloc: Global, e: &mut Engine, t: &Trials, by: Conflict) -> Result<Found, CoreStop>
+    requires nothing { e.old ≡ nothing }
+    requires trials { AreTrials t.now }
+    requires refuted { (ids : List ℕ) × IsShownConflict (trial t.now.problem.now ids) by }
+    ensures found { IfOk result (IsFound t.now.problem.now) }
+    ensures stop { IfErr result (IsCoreStop t.now.problem.now t.now.budget) }
+{
+    t.problem.show_whole(); // for the proof: what a problem keeps
+    let s = begun(alloc, by)?;
+    searched(alloc, e, t, s)
+}
+
+// What all required rows come to, which are these.
+fn found_of(alloc: Global, e: &mut Engine, t: &Trials, all: &[u32]) -> Result<Found, CoreStop>
+    requires nothing { e.old ≡ nothing }
+    requires trials { AreTrials t.now }
+    requires all { all.now ≡ map (λ r. r.id) (required t.now.problem.now) }
+    ensures found { IfOk result (IsFound t.now.problem.now) }
+    ensures stop { IfErr result (IsCoreStop t.now.problem.now t.now.budget) }
+{
+    t.problem.show_whole(); // for the proof: what a problem keeps
+    match tried(alloc, e, t, all)? {
+        Outcome::Solved(_) => Ok(Found::Solvable),
+        Outcome::Refuted(by) => found_among(alloc, e, t, by),
+    }
+}
+
+// The same on a new engine.
+fn found_anew(alloc: Global, t: &Trials, all: &[u32]) -> Result<Found, CoreStop>
+    requires trials { AreTrials t.now }
+    requires all { all.now ≡ map (λ r. r.id) (required t.now.problem.now) }
+    ensures found { IfOk result (IsFound t.now.problem.now) }
+    ensures stop { IfErr result (IsCoreStop t.now.problem.now t.now.budget) }
+{
+    let mut engine = Engine::new(alloc)?;
+    found_of(alloc, &mut engine, t, all)
+}
+
+// A core of the rows that these multipliers name, on a new engine.
+fn found_anew_among(alloc: Global, t: &Trials, by: Conflict) -> Result<Found, CoreStop>
+    requires trials { AreTrials t.now }
+    requires refuted { (ids : List ℕ) × IsShownConflict (trial t.now.problem.now ids) by }
+    ensures found { IfOk result (IsFound t.now.problem.now) }
+    ensures stop { IfErr result (IsCoreStop t.now.problem.now t.now.budget) }
+{
+    let mut engine = Engine::new(alloc)?;
+    found_among(alloc, &mut engine, t, by)
+}
+
+/// Whether the required rows have a solution, and if they have none, a core of them: rows that clash, each of
+/// which is needed for that.
+///
+/// `Unfit` and `Spent` are those of one trial, an addition of the rows that are named as held to an engine
+/// that holds nothing, with the whole budget.
+pub fn core(alloc: Global, p: &Problem, budget: u64) -> Result<Found, CoreStop>
+    requires rising { HasRisingStays p.now }
+    ensures found { IfOk result (IsFound p.now) }
+    ensures stop { IfErr result (IsCoreStop p.now budget) }
+{
+    let attrs = attributes(alloc, p)?;
+    let all = required_rows(alloc, p)?;
+    let trials = Trials {
+        problem: p,
+        attrs: &attrs,
+        budget,
+    };
+    found_anew(alloc, &trials, &all)
+}
+
+/// A core of the rows that these multipliers name, which refute the problem. That spares the trial of all
+/// required rows.
+///
+/// The stops are those of `core`.
+pub fn core_among(alloc: Global, p: &Problem, by: Conflict, budget: u64) -> Result<Found, CoreStop>
+    requires rising { HasRisingStays p.now }
+    requires shown { IsShownConflict p.now by }
+    ensures found { IfOk result (IsFound p.now) }
+    ensures stop { IfErr result (IsCoreStop p.now budget) }
+{
+    let attrs = attributes(alloc, p)?;
+    let trials = Trials {
+        problem: p,
+        attrs: &attrs,
+        budget,
+    };
+    found_anew_among(alloc, &trials, by)
+}

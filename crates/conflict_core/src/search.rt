@@ -1,0 +1,101 @@
+// From rows that clash to a core: one trial without each of them.
+ghost use Rattle.std.specs.Prelude.{◌≡◌, ◌<◌, ℕ, List, length, IfOk, IfErr};
+ghost use Rattle.problem_core.specs.Layout as layout;
+ghost use Rattle.problem_core.specs.Kept.{IsWhole};
+ghost use Rattle.cert_core.specs.Stops.{IsShownConflict};
+ghost use Rattle.conflict_core.specs.Cores.{trial};
+ghost use Rattle.conflict_core.specs.Cores as cores;
+ghost use Rattle.conflict_core.specs.Shown.{IsFound, IsSolution};
+ghost use Rattle.conflict_core.specs.Searches.{AreTrials, IsNext, IsSearch, left_of};
+ghost use Rattle.conflict_core.specs.Trials.{IsCoreStop, nothing};
+
+use crate::found::{CoreStop, Found};
+use crate::listing::{named, without};
+use crate::trials::{Outcome, Trials, tried};
+use cert_core::Conflict;
+use frac_core::OutOfMemory;
+use layout_solver::Engine;
+use problem_core::{Problem, Values};
+use std::alloc::Global;
+
+/// Rows that clash, with multipliers that name just them, and for each of the first ones values that satisfy
+/// the others.
+#[derive(Drop)]
+pub(crate) struct Search {
+    pub rows: Vec<u32>,
+    pub by: Conflict,
+    pub without: Vec<(u32, Values)>,
+}
+
+/// Where these multipliers refute some required rows, the search among those that they name.
+pub(crate) fn begun(alloc: Global, by: Conflict) -> Result<Search, OutOfMemory>
+    ensures { IfOk result (λ s. (p : layout.Problem) (ids : List ℕ) → IsWhole p
+        → IsShownConflict (trial p ids) by → IsSearch p s) }
+{
+    Ok(Search {
+        rows: named(alloc, &by)?,
+        by,
+        without: Vec::new(alloc),
+    })
+}
+
+// The next row is needed: these values satisfy the others.
+fn keep(s: &mut Search, id: u32, values: Values) -> Result<(), OutOfMemory>
+    ensures { IfOk result (λ _. (p : layout.Problem) → IsNext s.old id → IsSearch p s.old
+        → IsSolution (trial p (cores.without id s.old.rows.items)) values
+        → IsSearch p s.new × (left_of s.new < left_of s.old)) }
+{
+    s.without.push((id, values))?;
+    Ok(())
+}
+
+// The next row is not needed: these multipliers refute the others.
+fn narrow(alloc: Global, s: &mut Search, by: Conflict) -> Result<(), OutOfMemory>
+    ensures { IfOk result (λ _. (p : layout.Problem) (id : ℕ) → IsWhole p → IsNext s.old id → IsSearch p s.old
+        → IsShownConflict (trial p (cores.without id s.old.rows.items)) by
+        → IsSearch p s.new × (left_of s.new < left_of s.old)) }
+{
+    s.rows = named(alloc, &by)?;
+    s.by = by;
+    Ok(())
+}
+
+// Tries the rows without the next one, for which there are no values yet.
+fn step(alloc: Global, e: &mut Engine, t: &Trials, s: &mut Search) -> Result<(), CoreStop>
+    requires nothing { e.old ≡ nothing }
+    requires trials { AreTrials t.now }
+    requires search { IsSearch t.now.problem.now s.old }
+    requires next { length s.old.without.items < length s.old.rows.items }
+    ensures search { IfOk result (λ _. IsSearch t.now.problem.now s.new) }
+    ensures nearer { IfOk result (λ _. left_of s.new < left_of s.old) }
+    ensures stop { IfErr result (IsCoreStop t.now.problem.now t.now.budget) }
+    ensures same { e.new ≡ nothing }
+{
+    t.problem.show_whole(); // for the proof: what a problem keeps
+    let id = s.rows[s.without.len()];
+    let others = without(alloc, id, &s.rows)?;
+    match tried(alloc, e, t, &others)? {
+        Outcome::Solved(values) => Ok(keep(s, id, values)?),
+        Outcome::Refuted(by) => Ok(narrow(alloc, s, by)?),
+    }
+}
+
+/// The core to which a search comes.
+pub(crate) fn searched(
+    alloc: Global,
+    e: &mut Engine,
+    t: &Trials,
+    mut s: Search,
+) -> Result<Found, CoreStop>
+    requires nothing { e.old ≡ nothing }
+    requires trials { AreTrials t.now }
+    requires search { IsSearch t.now.problem.now s }
+    ensures found { IfOk result (IsFound t.now.problem.now) }
+    ensures stop { IfErr result (IsCoreStop t.now.problem.now t.now.budget) }
+{
+    while s.without.len() < s.rows.len() {
+        step(alloc, e, t, &mut s)?;
+    }
+    let Search { rows, by, without } = s;
+    Ok(Found::Core { rows, by, without })
+}

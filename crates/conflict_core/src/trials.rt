@@ -1,0 +1,121 @@
+// Trials: some required rows on an engine that holds nothing.
+ghost use Rattle.std.specs.Prelude.{◌≡◌, ◌<◌, ℕ, [], ◌∷◌, length, AllPairs, IfOk, IfErr, OnErr};
+ghost use Rattle.problem_core.specs.Layout as layout;
+ghost use Rattle.layout_solver.specs.Layouts.{solution_of};
+ghost use Rattle.conflict_core.specs.Cores.{AreRequired, trial};
+ghost use Rattle.conflict_core.specs.Trials.{IsCoreStop, IsOutcome, IsStopOfTrial, nothing};
+ghost use Rattle.conflict_core.specs.Searches.{AreTrials};
+
+use crate::found::CoreStop;
+use crate::listing::tried_rows;
+use cert_core::{Conflict, RunStop};
+use frac_core::OutOfMemory;
+use layout_solver::Engine;
+use problem_core::{Problem, Values};
+use std::alloc::Global;
+
+/// What is tried: a problem, its attributes in the order of their stays, and the budget of each trial.
+#[derive(Drop)]
+pub(crate) struct Trials<'a> {
+    pub problem: &'a Problem,
+    pub attrs: &'a [u32],
+    pub budget: u64,
+}
+
+/// What some required rows come to: they have these values as a solution, or these multipliers refute them.
+#[derive(Drop)]
+pub(crate) enum Outcome {
+    Solved(Values),
+    Refuted(Conflict),
+}
+
+// Adds all attributes and the rows of these numbers to an engine that holds nothing.
+fn add_rows(alloc: Global, e: &mut Engine, t: &Trials, ids: &[u32]) -> Result<(), RunStop>
+    requires nothing { e.old ≡ nothing }
+    requires trials { AreTrials t.now }
+    requires rising { AllPairs (λ a b. a < b) ids.now }
+    ensures done { IfOk result (λ _. e.new.problem ≡ trial t.now.problem.now ids.now) }
+    ensures earlier { IfOk result (λ _. e.new.earlier ≡ solution_of nothing ∷ []) }
+    ensures stop { IfErr result (IsStopOfTrial t.now.problem.now ids.now t.now.budget) }
+    ensures same { OnErr result (e.new ≡ nothing) }
+{
+    t.problem.show_whole(); // for the proof: what a problem keeps
+    let rows = tried_rows(alloc, t.problem, ids)?;
+    e.add(t.attrs, &rows, t.budget)
+}
+
+// The values of an engine, by rising attribute.
+fn values_of(alloc: Global, e: &Engine) -> Result<Values, OutOfMemory>
+    ensures { IfOk result (λ values. values ≡ e.now.values) }
+{
+    e.show_layout(); // for the proof: what an engine keeps
+    let mut pairs = Vec::new(alloc);
+    for stay in e.stays() {
+        pairs.push((stay.attr, e.value_at(stay.attr)))?;
+    }
+    Values::of(alloc, &pairs)
+}
+
+// The values of an engine, which goes back to the layout before.
+fn taken(alloc: Global, e: &mut Engine) -> Result<Values, OutOfMemory>
+    requires { 0 < length e.old.earlier }
+    ensures values { IfOk result (λ values. values ≡ e.old.values) }
+    ensures back { e.old.earlier ≡ solution_of e.new ∷ e.new.earlier }
+{
+    let values = values_of(alloc, e);
+    e.back();
+    values
+}
+
+// A copy of the numbers.
+fn copied(alloc: Global, ids: &[u32]) -> Result<Vec<u32>, OutOfMemory>
+    ensures { IfOk result (λ held. held.items ≡ ids.now) }
+{
+    Ok(Vec::from_slice(alloc, ids)?)
+}
+
+// What the trial of these rows comes to, where the engine stopped so.
+fn outcome_of(alloc: Global, ids: &[u32], stop: RunStop) -> Result<Outcome, CoreStop>
+    ensures refuted { IfOk result (λ outcome. (p : layout.Problem) (budget : ℕ)
+        → IsStopOfTrial p ids.now budget stop → IsOutcome p ids.now outcome) }
+    ensures stop { IfErr result (λ other. (p : layout.Problem) (budget : ℕ) → AreRequired p ids.now
+        → IsStopOfTrial p ids.now budget stop → IsCoreStop p budget other) }
+{
+    match stop {
+        RunStop::Conflict(by) => Ok(Outcome::Refuted(by)),
+        RunStop::Unfit(at) => {
+            let held = copied(alloc, ids)?;
+            Err(CoreStop::Unfit { held, at })
+        }
+        RunStop::Spent(path) => {
+            let held = copied(alloc, ids)?;
+            Err(CoreStop::Spent { held, path })
+        }
+        RunStop::OutOfMemory => Err(CoreStop::OutOfMemory),
+    }
+}
+
+/// What these required rows come to. The engine, which holds nothing, is as before.
+///
+/// `Unfit` and `Spent` are those of [`Engine::add`], with these rows.
+pub(crate) fn tried(
+    alloc: Global,
+    e: &mut Engine,
+    t: &Trials,
+    ids: &[u32],
+) -> Result<Outcome, CoreStop>
+    requires nothing { e.old ≡ nothing }
+    requires trials { AreTrials t.now }
+    requires rows { AreRequired t.now.problem.now ids.now }
+    ensures outcome { IfOk result (IsOutcome t.now.problem.now ids.now) }
+    ensures stop { IfErr result (IsCoreStop t.now.problem.now t.now.budget) }
+    ensures same { e.new ≡ nothing }
+{
+    match add_rows(alloc, e, t, ids) {
+        Ok(()) => {
+            e.show_layout(); // for the proof: what an engine keeps
+            Ok(Outcome::Solved(taken(alloc, e)?))
+        }
+        Err(stop) => outcome_of(alloc, ids, stop),
+    }
+}
