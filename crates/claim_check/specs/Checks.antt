@@ -68,15 +68,11 @@ abbrev pub IsAnswerTo : List (List ℕ) → Answer → Type 0
 IsAnswerTo all (Judged v) = IsJudged all v
 IsAnswerTo all (Bad n) = IsBad all n
 
--- the line of a verdict: `yes`, `no N` or `no room N`
-abbrev pub verdict_text : Verdict → List ℕ
-verdict_text Yes = codes "yes" ++ newline ∷ []
-verdict_text (No clause) = codes "no " ++ (decimal clause ++ newline ∷ [])
-verdict_text (NoRoom place) = codes "no room " ++ (decimal place ++ newline ∷ [])
-
--- the line of the answer: that of its verdict, or `bad N`
+-- the line of the answer: `yes`, `no N`, `no room N` or `bad N`
 abbrev pub answer_text : Answer → List ℕ
-answer_text (Judged v) = verdict_text v
+answer_text (Judged Yes) = codes "yes" ++ newline ∷ []
+answer_text (Judged (No clause)) = codes "no " ++ (decimal clause ++ newline ∷ [])
+answer_text (Judged (NoRoom place)) = codes "no room " ++ (decimal place ++ newline ∷ [])
 answer_text (Bad n) = codes "bad " ++ (decimal n ++ newline ∷ [])
 
 -- whether the answer is `yes`

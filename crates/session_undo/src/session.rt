@@ -75,7 +75,7 @@ impl Session {
     ghost use Rattle.session_undo.specs.Adding.{IsViewMore, StopStep, SuggestStep, UnlessUnfree, ViewStep};
     ghost use Rattle.scenes.specs.Frames.{IsFrameOf};
     ghost use Rattle.session_undo.specs.Kept.{AreWithin};
-    ghost use Rattle.session_undo.specs.State.{IsFirst};
+    ghost use Rattle.session_undo.specs.State.{first_state};
     ghost use Rattle.session_undo.specs.Replies.{Accepting, Done, Limit, MayRefuse, Refusing};
     ghost use Rattle.held_items.specs.Items.{has_size};
     ghost use Rattle.session_undo.specs.Machine.{AreTooMany, Certifies, Diagnoses, IsCrowded, IsTaken, Keeps};

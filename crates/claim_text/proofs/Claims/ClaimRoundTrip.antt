@@ -360,7 +360,7 @@ unfit_clean : (unfit : Option Quantity) → IsQuantityWritten unfit → Clean (u
 unfit_clean None is = All-nil (λ line. All (λ b. 31 < b) line)
 unfit_clean (Some q) is = clean (unfit_line q) [] (line_bytes (unfit_words q) (unfit_visible q is)) (All-nil (λ line. All (λ b. 31 < b) line))
 
-pub claim_clean : (c : Claim) → IsWritten c → Clean (claim_lines c)
+claim_clean : (c : Claim) → IsWritten c → Clean (claim_lines c)
 claim_clean (IsBest values best) is =
     All-append (λ line. All (λ b. 31 < b) line) (map value_line values) (line_of best_words ∷ lines_of_levels best)
     (All-map (λ line. All (λ b. 31 < b) line) value_line values (All-weaker IsValue (λ v. All (λ b. 31 < b) (value_line v)) (λ v is. line_bytes (value_words v) (values_visible v is)) values is.values))
