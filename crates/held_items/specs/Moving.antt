@@ -7,7 +7,8 @@ use Rattle.compile_parts.specs.Fractions.{plus, negated}
 use Rattle.constraint_compile.specs.Compiled.{RowForm}
 use Rattle.constraint_compile.specs.declared.naming.RowConstant.{RowConstant}
 use Rattle.layout_solver.specs.declared.engine.Change.{Change}
-use Rattle.held_items.specs.Items.{Item, OfWindow, OfView, Sized, OfLine, Suggested, Size, size_of}
+use Rattle.held_items.specs.Items.{Item, OfWindow, OfView, Sized, OfLine, Suggested, Intrinsic, Size}
+use Rattle.held_items.specs.Items.{size_of}
 
 -- ---- how far constants move
 
@@ -45,6 +46,7 @@ forms_in (OfView first_row id) = []
 forms_in (Sized first_row width height) = []
 forms_in (OfLine group line) = line.rows
 forms_in (Suggested s) = []
+forms_in (Intrinsic s) = []
 
 -- those of all these items, in order
 abbrev pub forms_of : List Item → List RowForm

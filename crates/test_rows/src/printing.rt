@@ -7,7 +7,7 @@ use format_compile::{compile_format, format_row_count};
 use frac_core::{Frac, OutOfMemory, Stop};
 use name_tables::LimitWord;
 use problem_core::Row;
-use script_text::{Align, Command, Linear, read_line};
+use script_text::{Align, Command, Direction, Linear, read_line};
 use span_text::SyntaxAt;
 use std::alloc::Global;
 use vfl_text::Format;
@@ -63,9 +63,17 @@ fn put_format(
     align: Option<Align>,
     format: &Format<'_>,
 ) -> Result<usize, OutOfMemory> {
-    let counted = format_row_count(alloc, format, align)?;
+    let counted = format_row_count(alloc, format, align, Direction::Ltr)?;
     let Setting { tree, metrics, .. } = setting;
-    let made = compile_format(alloc, tree, metrics, format, align, setting.number.max(1));
+    let made = compile_format(
+        alloc,
+        tree,
+        metrics,
+        format,
+        align,
+        setting.number.max(1),
+        Direction::Ltr,
+    );
     match &made {
         Ok(compiled) => put_compiled(alloc, out, setting, compiled, counted),
         Err(stop) => put_none(out, stop),
@@ -80,7 +88,14 @@ fn put_linear(
     line: &Linear<'_>,
 ) -> Result<usize, OutOfMemory> {
     let Setting { tree, metrics, .. } = setting;
-    let made = compile_line(alloc, tree, metrics, line, setting.number.max(1));
+    let made = compile_line(
+        alloc,
+        tree,
+        metrics,
+        line,
+        setting.number.max(1),
+        Direction::Ltr,
+    );
     match &made {
         Ok(compiled) => put_rows(alloc, out, setting, compiled),
         Err(stop) => put_none(out, stop),

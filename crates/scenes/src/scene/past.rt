@@ -9,9 +9,17 @@ ghost use Rattle.held_items.specs.declared.limits.TheConstants.{EARLIER};
 use held_items::{EARLIER, Item};
 use layout_solver::Engine;
 use name_tables::Metrics;
+use script_text::Direction;
 use std::collections::VecDeque;
 use version_list::VersionList;
 use view_tree::Tree;
+
+/// How what comes next is set: the number that its first row takes, and the direction in which it is meant.
+#[derive(Clone, Copy)]
+pub struct Setting {
+    pub next_row: u32,
+    pub direction: Direction,
+}
 
 /// What an earlier scene has otherwise than the one after it. Views and metrics that are the same stand in
 /// the scene after it alone.
@@ -19,40 +27,40 @@ use view_tree::Tree;
 pub struct Past {
     pub tree: Option<Tree>,
     pub metrics: Option<Metrics>,
-    pub next_row: u32,
+    pub setting: Setting,
 }
 
 impl Past {
     /// The scene has the views and metrics of the one after it.
-    pub fn alike(next_row: u32) -> Past
-        ensures { result ≡ record { tree = None; metrics = None; next_row = next_row } }
+    pub fn alike(setting: Setting) -> Past
+        ensures { result ≡ record { tree = None; metrics = None; setting = setting } }
     {
         Past {
             tree: None,
             metrics: None,
-            next_row,
+            setting,
         }
     }
 
     /// The scene has views of its own.
-    pub fn with_tree(tree: Tree, next_row: u32) -> Past
-        ensures { result ≡ record { tree = Some tree; metrics = None; next_row = next_row } }
+    pub fn with_tree(tree: Tree, setting: Setting) -> Past
+        ensures { result ≡ record { tree = Some tree; metrics = None; setting = setting } }
     {
         Past {
             tree: Some(tree),
             metrics: None,
-            next_row,
+            setting,
         }
     }
 
     /// The scene has metrics of its own.
-    pub fn with_metrics(metrics: Metrics, next_row: u32) -> Past
-        ensures { result ≡ record { tree = None; metrics = Some metrics; next_row = next_row } }
+    pub fn with_metrics(metrics: Metrics, setting: Setting) -> Past
+        ensures { result ≡ record { tree = None; metrics = Some metrics; setting = setting } }
     {
         Past {
             tree: None,
             metrics: Some(metrics),
-            next_row,
+            setting,
         }
     }
 }

@@ -9,7 +9,7 @@ use Rattle.frac_core.specs.declared.memory.Stop.{Stop}
 use Rattle.line_by_line.proofs.Stops.{passed_on}
 use Rattle.layout_cli.proofs.Answered.{step_told}
 use Rattle.layout_cli.proofs.Told.{unchanged}
-use Rattle.layout_cli.proofs.answers.answer.Goals as goal
+use Rattle.layout_cli.proofs.responder.Responder.put_answer.Goals as goal
 
 pub returns-in_err-put_reply-clause-front : goal.returns-in_err-put_reply-clause-front
 returns-in_err-put_reply-clause-front g c =

@@ -3,7 +3,7 @@ use Rattle.std.proofs.lemmas.Result.{err_from_is_err_and}
 use Rattle.span_text.specs.Objects.{object_view}
 use Rattle.script_text.specs.View.{linear_view}
 use Rattle.compile_parts.specs.Meaning.{IsRank, has_view_number, terms_of}
-use Rattle.constraint_compile.proofs.line.compile_line.Goals as goal
+use Rattle.constraint_compile.proofs.line.compile_turned.Goals as goal
 
 pub returns-in_err-names-clause-stop : goal.returns-in_err-names-clause-stop
 returns-in_err-names-clause-stop c =
