@@ -16,8 +16,8 @@ TOP = os.path.join(os.path.dirname(os.path.abspath(__file__)), "..")
 PROGRAM = os.path.abspath((sys.argv[1:] or [f"{TOP}/crates/layout/out/layout"])[0])
 PAGES = ["README.md", "docs/GUIDE.md", "docs/LANGUAGE.md"]
 SCREENS = {"## 3. ": "Settings", "## 4. ": "Dialog"}
-WORDS = """view tree drop metric window vfl constrain remove suggest release undo budget frames rows diagnose
-certify ?""".split()
+WORDS = """layout view tree drop metric window vfl constrain remove suggest release direction size unsize undo budget
+frames rows diagnose certify ?""".split()
 
 
 def blocks(page):

@@ -13,8 +13,8 @@
 //! ```
 //!
 //! [`cut_input`] cuts such an input in two, and [`read_claim`] reads the claim; `read_problem` is that of
-//! `problem_reading`. The laws say that the lines that are read as a claim are exactly that claim's lines, and
-//! that the line at which the reader stops is the first outside the form.
+//! `problem_reading`. The laws say that the lines that are read as a claim are exactly that claim's lines,
+//! and that the line at which the reader stops is the first outside the form.
 //!
 //! Invariant (`IsDraft`): while a claim is read, what was read has the order in which a claim is written:
 //! values by rising attribute, levels and rows each once and as `claim::order` has them.

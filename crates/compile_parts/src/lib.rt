@@ -34,6 +34,6 @@ pub use limits::{ADDEND_LIMIT, CONSTANT_LIMIT, constants_are_as_said};
 pub use resolved::{Resolved, resolve, resolve_rank};
 pub use shares::{Doubled, Share, attributes, id_named, share_at, times};
 pub use steps::{Part, Step, constant_after, name_at};
-pub use stops::{CompileStop, KindWord, LargeConstant, RankStop};
+pub use stops::{CompileStop, KindWord, LargeConstant};
 pub use wide::ratios::{Ratio, small_of};
 pub use wide::{product, total};

@@ -28,6 +28,9 @@ pub enum KindWord {
     /// A further suggestion of the same attribute has a priority.
     #[error("a further suggestion of the attribute has a priority")]
     Suggested,
+    /// A further size of the same view has a priority.
+    #[error("a further size of the view has a priority")]
+    Sized,
     /// A tree of views is of another shape.
     #[error("the tree of views is of another shape")]
     Tree,
@@ -37,31 +40,6 @@ pub enum KindWord {
 #[derive(Clone, Copy, Debug, PartialEq, Eq, Error)]
 #[error("a constant would be past its limit")]
 pub struct LargeConstant;
-
-/// Why a suggestion's priority stands for no rank.
-#[derive(Drop, Debug, Error)]
-pub enum RankStop {
-    /// This name must be that of a view or a metric, and isn't.
-    #[error("a name is neither a view's nor a metric's")]
-    Unknown(OwnedName),
-    /// The priority is no whole number from 1 to [`REQUIRED`](problem_core::REQUIRED).
-    #[error("the priority stands for no rank")]
-    NoRank,
-    /// Memory is wanting.
-    #[error("memory is wanting")]
-    OutOfMemory,
-}
-
-impl From<OutOfMemory> for RankStop {
-    ghost use Rattle.std.specs.Prelude.{◌≡◌};
-    ghost use Rattle.compile_parts.specs.declared.stops.RankStop.TheVariants as stop;
-
-    ghost from_gives = { λ _ e. e ≡ stop.OutOfMemory };
-
-    fn from(_: OutOfMemory) -> RankStop {
-        RankStop::OutOfMemory
-    }
-}
 
 /// Why a line has no rows.
 #[derive(Drop, Debug, Error)]

@@ -28,7 +28,7 @@ use Rattle.diagnosis.specs.declared.probing.DiagnoseStop.TheVariants as probed
 use Rattle.scenes.specs.Diagnosing.{IsLayoutOf, IsProbedStop}
 use Rattle.scenes.specs.Leaving.{stood_of}
 use Rattle.scenes.specs.Steps.{CannotLeave, IsLeaving, IsProblemOf, IsStopped}
-use Rattle.session_undo.specs.Machine.{Conflicts, Diagnoses, Finds, LeavesFree, LeftSpends, Solves, SolvesFree, Spends, TellsStill}
+use Rattle.session_undo.specs.Machine.{Conflicts, Diagnoses, Finds, LeavesFree, LeftSpends, Solves, SolvesFree, Spends, Stands, TellsStill}
 use Rattle.session_undo.specs.Replies.{Done, Reply}
 use Rattle.scenes.specs.Scene.{Becomes, Scene, draft_problem, problem_of}
 use Rattle.session_undo.specs.State.{State}
@@ -95,6 +95,12 @@ module _ (old : State) (draft : Scene) (reply : Reply) (new : State) where
   pub decides : HasRoomFor old draft → Solves old draft reply new → HasProblem draft (λ p. IsDecided p reply)
   decides room (inl h) = conflicts room h
   decides room (inr h) = let is = free room h in (is.0, is.1, inl is.2)
+
+  -- a draft that stands has its values, whatever the room
+  pub stands : Stands old draft reply new → HasProblem draft (λ p. IsAccepted p reply)
+  stands h =
+      let best = h.best.best in
+      (problem_of draft, (h.rows, refl), ((best.0, best.1.0), h.done))
 
   -- ---- removals
 

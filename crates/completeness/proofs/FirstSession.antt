@@ -12,6 +12,7 @@ use Rattle.scenes.specs.Steps.{IsProblemOf}
 use Rattle.session_undo.specs.Machine.{MeaningStep, Poses}
 use Rattle.session_undo.specs.Replies.{Done, Limit, Reply, Taken, is_accepted}
 use Rattle.session_undo.specs.State.{State, first_state}
+use Rattle.script_text.specs.declared.words.Version.TheVariants as version
 use Rattle.scenes.specs.Scene.{first_scene, with_metric}
 use Rattle.completeness.specs.Examples.{first}
 use Rattle.completeness.specs.Room.{HasRoom}
@@ -37,12 +38,12 @@ pub no-cause : {Fact Same N A : Type 0} (refusal : Reply) → is_accepted refusa
 no-cause refusal bad (inl (fact, is, same)) = absurd (no-refusal refusal bad is)
 no-cause refusal bad (inr (n, a)) = a
 
-first-problem : (corner : List Mark) (name : List ℕ) (value : Fraction) (p : Problem) → Poses (first_state corner) (mean.Metric name value) p → p ≡ first
+first-problem : (corner : List Mark) (name : List ℕ) (value : Fraction) (p : Problem) → Poses (first_state version.One corner) (mean.Metric name value) p → p ≡ first
 first-problem corner name value p h =
     let rest = no-cause (Limit word.Constant) refl (no-cause (Limit word.Metrics) refl (no-cause (Limit word.Name) refl (no-cause (Taken name) refl h))) in
     same-problem corner name value p (no-cause (Limit word.Constant) refl rest.2)
 
-first-room : (corner : List Mark) (name : List ℕ) (value : Fraction) (p : Problem) → Poses (first_state corner) (mean.Metric name value) p → HasRoom structural_rows 100000 p
+first-room : (corner : List Mark) (name : List ℕ) (value : Fraction) (p : Problem) → Poses (first_state version.One corner) (mean.Metric name value) p → HasRoom structural_rows 100000 p
 first-room corner name value p h = subst (HasRoom structural_rows 100000) (sym (first-problem corner name value p h)) has-room
 
 -- all is 0
@@ -53,13 +54,13 @@ satisfied : Satisfies first nothing
 unfolding nothing
 satisfied = All-from_recursion (λ r. r.rank ≡ 1000 → error nothing (line_of_row r) ≡ 0) first.rows ((λ e. refl), ((λ e. refl), ((λ e. refl), ((λ e. refl), tt))))
 
-done : (corner : List Mark) (name : List ℕ) (value : Fraction) (reply : Reply) (p : Problem) → Poses (first_state corner) (mean.Metric name value) p → IsDecided p reply → reply ≡ Done
+done : (corner : List Mark) (name : List ℕ) (value : Fraction) (reply : Reply) (p : Problem) → Poses (first_state version.One corner) (mean.Metric name value) p → IsDecided p reply → reply ≡ Done
 done corner name value reply p h (inl (possible, is)) = is
 done corner name value reply p h (inr (none, told)) = absurd (subst IsInConflict (first-problem corner name value p h) none nothing satisfied)
 
-first-metrics-at : (corner : List Mark) (name : List ℕ) (value : Fraction) (reply : Reply) (new : State) → MeaningStep (first_state corner) (mean.Metric name value) reply new → IsRefused (first_state corner) (mean.Metric name value) reply new ⊎ (reply ≡ Done)
+first-metrics-at : (corner : List Mark) (name : List ℕ) (value : Fraction) (reply : Reply) (new : State) → MeaningStep (first_state version.One corner) (mean.Metric name value) reply new → IsRefused (first_state version.One corner) (mean.Metric name value) reply new ⊎ (reply ≡ Done)
 first-metrics-at corner name value reply new h =
-    elim (changes-answered (first_state corner) (mean.Metric name value) reply new tt (first-room corner name value) h) [
+    elim (changes-answered (first_state version.One corner) (mean.Metric name value) reply new tt (first-room corner name value) h) [
       | inl cause ↦ inl cause
       | inr answer ↦ inr (done corner name value reply answer.0 answer.1 answer.2)
     ]

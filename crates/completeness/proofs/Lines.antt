@@ -4,13 +4,13 @@ use Rattle.problem_core.specs.Layout.{Problem}
 use Rattle.script_text.specs.Meaning.{Meaning}
 use Rattle.script_text.specs.Meaning as mean
 use Rattle.scenes.specs.Steps.{IsProblemOf}
-use Rattle.session_undo.specs.Machine.{Keeps, LeavesFree, MeaningStep, Poses, Solves, SolvesFree}
+use Rattle.session_undo.specs.Machine.{Keeps, LeavesFree, MeaningStep, Poses, Solves, SolvesFree, Stands}
 use Rattle.session_undo.specs.Replies.{Reply, is_accepted}
 use Rattle.scenes.specs.Scene.{Scene}
 use Rattle.session_undo.specs.State.{State}
 use Rattle.completeness.specs.Room.{HasRoom, HasRoomToLeave, HasRoomToStep}
 use Rattle.completeness.specs.Laws.{ComesTo, IsAccepted, IsChanging, IsDecided, IsRefused, NeedsNoRoom}
-use Rattle.completeness.proofs.Drafts.{decides, free, leaves-free}
+use Rattle.completeness.proofs.Drafts.{decides, free, leaves-free, stands}
 use Rattle.completeness.proofs.Resolved.{resolved}
 
 -- a cause is against the command, or it has a problem of which P holds
@@ -40,6 +40,10 @@ module _ (old : State) (m : Meaning) (reply : Reply) (new : State) where
   gone room (inl cause) = inl cause
   gone room (inr (d, end, its)) = said (λ p. IsAccepted p reply) d its (leaves-free old d reply new (λ p of. room p (its p of)) end)
 
+  stood : IsRefused old m reply new ⊎ ((d : Scene) × Stands old d reply new × AreIts d) → Says old m reply new (λ p. IsAccepted p reply)
+  stood (inl cause) = inl cause
+  stood (inr (d, end, its)) = said (λ p. IsAccepted p reply) d its (stands old d reply new end)
+
 -- each change, by its command
 pub changes-answered : (old : State) (m : Meaning) (reply : Reply) (new : State) → IsChanging m → ((p : Problem) → Poses old m p → HasRoomToStep old m p) → MeaningStep old m reply new
     → IsRefused old m reply new ⊎ ((p : Problem) × Poses old m p × ComesTo m p reply)
@@ -54,6 +58,10 @@ changes-answered old (mean.Constrain group line) reply new is room h = solved ol
 changes-answered old (mean.Vfl group align format) reply new is room h = solved old (mean.Vfl group align format) reply new room (resolved old (Solves old) reply new (mean.Vfl group align format) Keeps is h)
 changes-answered old (mean.Suggest name attr value priority) reply new is room h =
     solved old (mean.Suggest name attr value priority) reply new room (resolved old (Solves old) reply new (mean.Suggest name attr value priority) Keeps is h)
+changes-answered old (mean.Turn to) reply new is room h = stood old (mean.Turn to) reply new (resolved old (Stands old) reply new (mean.Turn to) Keeps is h)
+changes-answered old (mean.Size name width height hug resist) reply new is room h =
+    solved old (mean.Size name width height hug resist) reply new room (resolved old (Solves old) reply new (mean.Size name width height hug resist) Keeps is h)
+changes-answered old (mean.Unsize name) reply new is room h = gone old (mean.Unsize name) reply new room (resolved old (LeavesFree old) reply new (mean.Unsize name) Keeps is h)
 changes-answered old mean.Nothing reply new is room h = absurd is
 changes-answered old mean.Undo reply new is room h = absurd is
 changes-answered old (mean.Budget exchanges) reply new is room h = absurd is
@@ -84,4 +92,7 @@ others-accepted old (mean.Vfl group align format) reply new need h = absurd need
 others-accepted old (mean.Remove group) reply new need h = absurd need
 others-accepted old (mean.Suggest name attr value priority) reply new need h = absurd need
 others-accepted old (mean.Release name attr) reply new need h = absurd need
+others-accepted old (mean.Turn to) reply new need h = absurd need
+others-accepted old (mean.Size name width height hug resist) reply new need h = absurd need
+others-accepted old (mean.Unsize name) reply new need h = absurd need
 others-accepted old mean.Diagnose reply new need h = absurd need

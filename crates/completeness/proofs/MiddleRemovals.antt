@@ -1,5 +1,5 @@
 -- A removal from the scene of some lines has room, where the row that leaves comes before others.
-use Rattle.std.proofs.Common.{◌≡◌, ◌≢◌, ◌∙◌, ℕ, ◌<◌, ◌≤◌, ◌++◌, true, false, List, [], ◌∷◌, pos, refl, ap₂, subst, sym, arith, inr, AllPairs, true≢false}
+use Rattle.std.proofs.Common.{◌≡◌, ◌≢◌, ◌∙◌, ℕ, ◌<◌, ◌≤◌, ◌++◌, List, [], ◌∷◌, pos, refl, ap₂, subst, sym, arith, inr, AllPairs, true≢false}
 use Rattle.std.proofs.lemmas.List.Elements.{All-from_recursion}
 use borrow.Author.Differences.{ints}
 use Rattle.frac_core.proofs.Lists.{pairs-nil}

@@ -10,13 +10,14 @@ use Rattle.script_text.specs.Meaning as mean
 use Rattle.script_text.specs.declared.words.AttrWord.{AttrWord}
 use Rattle.constraint_compile.specs.Compiled.{CompiledLine}
 use Rattle.constraint_compile.specs.declared.suggestion.Suggestion.{Suggestion}
+use Rattle.held_items.specs.declared.item.intrinsic.IntrinsicSize.{IntrinsicSize}
 use Rattle.view_tree.specs.JsonTrees.{Branch, JsonTree}
 use Rattle.session_undo.specs.Adding.{NoEnd}
-use Rattle.session_undo.specs.Machine.{AddsBranch, AddsLine, AddsTree, AddsView, DropsView, PosesDraft, ReleasesOf, Suggests, SuggestsFor, Tried, TriedBranch, TriedDrop, TriedMetric, TriedRelease, TriedRemove, TriedSuggest, TriedTree, TriedView, TriedWindow, UnlessFar, parent_name}
+use Rattle.session_undo.specs.Machine.{AddsBranch, AddsLine, AddsTree, AddsView, DropsView, PosesDraft, ReleasesOf, Sizes, SizesFor, Suggests, SuggestsFor, Tried, TriedBranch, TriedDrop, TriedMetric, TriedRelease, TriedRemove, TriedSize, TriedSuggest, TriedTree, TriedUnsize, TriedView, TriedWindow, UnlessFar, UnsizesOf, parent_name}
 use Rattle.scenes.specs.Steps.{IsProblemOf}
 use Rattle.session_undo.specs.Machine.{Poses}
 use Rattle.session_undo.specs.Replies.{Reply, Done}
-use Rattle.scenes.specs.Scene.{Scene, with_metric}
+use Rattle.scenes.specs.Scene.{Scene, with_direction, with_metric}
 use Rattle.session_undo.specs.State.{State}
 use Rattle.completeness.specs.Laws.{IsChanging, IsRefused}
 
@@ -99,6 +100,27 @@ module _ (old : State) (E : Scene → Reply → State → Type 0) (r : Reply) (s
   res-release : (name : List ℕ) (attr : AttrWord) → TriedRelease old name attr E r s → Res (TriedRelease old name attr NoEnd r s) (λ p. TriedRelease old name attr (PosesDraft p) Done old)
   res-release name attr = past (releases name attr)
 
+  sizes : (view : ℕ) (width height : Fraction) (hug resist : Option Meant) (hugs resists : ℕ) (held : Option IntrinsicSize) → Sizes old view width height hug resist hugs resists held E r s
+      → Res (Sizes old view width height hug resist hugs resists held NoEnd r s) (λ p. Sizes old view width height hug resist hugs resists held (PosesDraft p) Done old)
+  sizes view width height hug resist hugs resists None = past (end _)
+  sizes view width height hug resist hugs resists (Some held) = past (past (end _))
+
+  sizes-for : (name : List ℕ) (width height : Fraction) (hug resist : Option Meant) → SizesFor old name width height hug resist E r s
+      → Res (SizesFor old name width height hug resist NoEnd r s) (λ p. SizesFor old name width height hug resist (PosesDraft p) Done old)
+  sizes-for name width height hug resist (view, found, hugs, resists, is, are, more) =
+      beside (λ c. (view, found, hugs, resists, is, are, c)) (λ p q. (view, found, hugs, resists, is, are, q)) (sizes view.id width height hug resist hugs resists _ more)
+
+  res-size : (name : List ℕ) (width height : Fraction) (hug resist : Option Meant) → TriedSize old name width height hug resist E r s
+      → Res (TriedSize old name width height hug resist NoEnd r s) (λ p. TriedSize old name width height hug resist (PosesDraft p) Done old)
+  res-size name width height hug resist = past (past (past (past (sizes-for name width height hug resist))))
+
+  unsizes : (name : List ℕ) → UnsizesOf old name E r s → Res (UnsizesOf old name NoEnd r s) (λ p. UnsizesOf old name (PosesDraft p) Done old)
+  unsizes name (view, found, inl x) = inl (view, found, inl x)
+  unsizes name (view, found, inr (held, e)) = inr (_, e, λ p of. (view, found, inr (held, of)))
+
+  res-unsize : (name : List ℕ) → TriedUnsize old name E r s → Res (TriedUnsize old name NoEnd r s) (λ p. TriedUnsize old name (PosesDraft p) Done old)
+  res-unsize name = past (unsizes name)
+
   res-remove : (group : List ℕ) → TriedRemove old group E r s → Res (TriedRemove old group NoEnd r s) (λ p. TriedRemove old group (PosesDraft p) Done old)
   res-remove group = past (end _)
 
@@ -119,6 +141,9 @@ module _ (old : State) (E : Scene → Reply → State → Type 0) (r : Reply) (s
   resolved (mean.Remove group) Other is h = res-remove group h
   resolved (mean.Suggest name attr value priority) Other is h = res-suggest name attr value priority h
   resolved (mean.Release name attr) Other is h = res-release name attr h
+  resolved (mean.Turn to) Other is h = end (with_direction old.scene to) h
+  resolved (mean.Size name width height hug resist) Other is h = res-size name width height hug resist h
+  resolved (mean.Unsize name) Other is h = res-unsize name h
   resolved mean.Nothing Other is h = absurd is
   resolved mean.Undo Other is h = absurd is
   resolved (mean.Budget exchanges) Other is h = absurd is

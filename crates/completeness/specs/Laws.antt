@@ -36,6 +36,9 @@ IsChanging (mean.Vfl group align format) = Unit {0}
 IsChanging (mean.Remove group) = Unit {0}
 IsChanging (mean.Suggest name attr value priority) = Unit {0}
 IsChanging (mean.Release name attr) = Unit {0}
+IsChanging (mean.Turn to) = Unit {0}
+IsChanging (mean.Size name width height hug resist) = Unit {0}
+IsChanging (mean.Unsize name) = Unit {0}
 IsChanging _ = ⊥
 
 -- the required rows have a solution, and the command is accepted
@@ -46,13 +49,16 @@ IsAccepted p reply = ((x : Assignment) × Satisfies p x) × (reply ≡ Done)
 abbrev pub IsDecided : Problem → Reply → Type 0
 IsDecided p reply = IsAccepted p reply ⊎ (IsInConflict p × ((by : List By) × (reply ≡ Conflict by)))
 
--- what a command comes to, where this is its problem: views that come, and what leaves, are in no conflict
+-- what a command comes to, where this is its problem: views that come, what leaves, and another direction are
+-- in no conflict
 abbrev pub ComesTo : Meaning → Problem → Reply → Type 0
 ComesTo (mean.View name parent) = IsAccepted
 ComesTo (mean.Tree text start) = IsAccepted
 ComesTo (mean.Drop name) = IsAccepted
 ComesTo (mean.Remove group) = IsAccepted
 ComesTo (mean.Release name attr) = IsAccepted
+ComesTo (mean.Turn to) = IsAccepted
+ComesTo (mean.Unsize name) = IsAccepted
 ComesTo _ = IsDecided
 
 -- a cause is against the command
@@ -118,8 +124,8 @@ FirstSceneFits = (corner : List Mark) → AllFit (problem_of (first_scene corner
 abbrev pub SteepDoesNotFit : Type 0
 SteepDoesNotFit = (before : List Row) → AllFit steep before → ⊥
 
--- where no row is new and no constant changes, each quantity fits at each corner of a problem whose rows bound
--- one attribute each
+-- where no row is new and no constant changes, each quantity fits at each corner of a problem whose rows
+-- bound one attribute each
 abbrev pub BoundsFit : Type 0
 BoundsFit = (p : Problem) → AreBounds p → AllFit p p.rows
 

@@ -39,11 +39,13 @@ FitsOnTheWay scene p = (l : Leaving) → CanLeave l (stood_of scene) → AllPair
 abbrev pub HasRoomToLeave : State → Problem → Type 0
 HasRoomToLeave old p = HasRoom p.rows old.budget p × FitsOnTheWay old.scene p
 
--- there is room for a command, where this is its problem
+-- there is room for a command, where this is its problem; another direction needs none
 abbrev pub HasRoomToStep : State → Meaning → Problem → Type 0
 HasRoomToStep old (mean.Drop name) = HasRoomToLeave old
 HasRoomToStep old (mean.Remove group) = HasRoomToLeave old
 HasRoomToStep old (mean.Release name attr) = HasRoomToLeave old
+HasRoomToStep old (mean.Turn to) = λ p. Unit {0}
+HasRoomToStep old (mean.Unsize name) = HasRoomToLeave old
 HasRoomToStep old _ = HasRoom old.scene.rows old.budget
 
 -- ---- probes

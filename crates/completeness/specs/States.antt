@@ -1,5 +1,5 @@
--- States of one attribute: whose probes have room, and have not, and from which a row can leave; and the scene
--- of some lines, from which a row can leave that isn't the last.
+-- States of one attribute: whose probes have room, and have not, and from which a row can leave; and the
+-- scene of some lines, from which a row can leave that isn't the last.
 use Rattle.std.specs.Prelude.{ℕ, List, [], ◌∷◌, ◌++◌, ◌-◌, pos, negsuc}
 use Rattle.frac_core.specs.declared.frac.TheConstants.{PART_BOUND}
 use Rattle.frac_core.specs.Fraction.{Fraction}
@@ -10,6 +10,8 @@ use Rattle.problem_core.specs.Window.{required_row, structural_rows, window_valu
 use Rattle.problem_core.specs.Window.{zero_fraction}
 use Rattle.script_text.specs.declared.words.AttrWord.{AttrWord}
 use Rattle.script_text.specs.declared.words.AttrWord.TheVariants.{Height, Left}
+use Rattle.script_text.specs.declared.words.Direction.TheVariants.{Ltr}
+use Rattle.script_text.specs.declared.words.Version.TheVariants.{One}
 use Rattle.view_tree.specs.Views.{window}
 use Rattle.compile_parts.specs.Meaning.{Nothing, Number}
 use Rattle.constraint_compile.specs.Compiled.{RowForm}
@@ -29,6 +31,7 @@ state_of held rows value = record {
     metrics = [];
     held = held;
     next_row = 2;
+    direction = Ltr;
     rows = rows;
     stays = record { attr = 1; target = value } ∷ [];
     values = (1, value) ∷ [];
@@ -37,6 +40,7 @@ state_of held rows value = record {
   earlier = [];
   budget = FIRST_BUDGET;
   limits = first_limits;
+  version = One;
 }
 
 -- it is 0, and has no row
@@ -79,8 +83,14 @@ width_form = record {
 
 -- the suggestion that this attribute of the window is 0, of the usual priority
 abbrev pub zero_suggestion : ℕ → AttrWord → Suggestion
-zero_suggestion row word =
-    record { row = row; rank = USUAL_RANK; view = 0; word = word; constant = zero_fraction }
+zero_suggestion row word = record {
+  row = row;
+  rank = USUAL_RANK;
+  view = 0;
+  word = word;
+  direction = Ltr;
+  constant = zero_fraction;
+}
 
 -- a width of at least 1, by a line of the group g, a height of 0 and a left of 0, by suggestions
 abbrev pub three_rows : List Row
@@ -97,6 +107,7 @@ bounded_state = record {
     held = OfWindow ∷ OfLine (103 ∷ []) (record { rows = width_form ∷ []; views = 0 ∷ [] })
         ∷ Suggested (zero_suggestion 6 Height) ∷ Suggested (zero_suggestion 7 Left) ∷ [];
     next_row = 8;
+    direction = Ltr;
     rows = structural_rows ++ three_rows;
     stays = zero_stay 1 ∷ zero_stay 2
         ∷ record { attr = window_width; target = record { num = pos 1; den = 1 } } ∷ zero_stay 4 ∷ [];
@@ -106,6 +117,7 @@ bounded_state = record {
   earlier = [];
   budget = 2000000;
   limits = first_limits;
+  version = One;
 }
 
 -- the problem that is left without the group: the row behind it, and the next, are still there

@@ -13,7 +13,7 @@ ghost use Rattle.completeness.specs.Laws.{MiddleRemovalHasRoom, RemovalHasRoom, 
 
 /// Where there is room for the problem of a command that makes a change, a cause is against it, or it is
 /// accepted where the required rows have a solution, and refused for their conflict where they have none.
-/// Views that come, and what leaves, are accepted.
+/// Views that come, what leaves, and another direction are accepted.
 pub fn changes_are_answered()
     ensures { ChangesAreAnswered }
 {}

@@ -90,7 +90,8 @@ pub record SomeAreShown : Type 0 where
 
 -- ---- where a trial stops
 
--- with no exchange the trial of `x >= 5` stops below its bound; with one it doesn't, nor does that of another row
+-- with no exchange the trial of `x >= 5` stops below its bound; with one it doesn't, nor does that of another
+-- row
 pub record SomeTrialsStop : Type 0 where
   pub spent : (held : Vec ℕ) → held.items ≡ 1 ∷ [] → IsCoreStop (single 5) 0 (Spent held below_bound)
   pub early : (held : Vec ℕ) → held.items ≡ 1 ∷ [] → IsCoreStop (single 5) 1 (Spent held below_bound) → ⊥

@@ -32,7 +32,8 @@ pub record FoundDecides : Type 0 where
   pub solvable : (p : Problem) (f : Found) → IsFound p f → f ≡ Solvable → IsInConflict p → ⊥
   pub core : (p : Problem) (f : Found) → IsWhole p → IsFound p f → f ≢ Solvable → IsInConflict p
 
--- the budget is at least 3^N, where N counts rows and stays, and each quantity fits at each corner of each trial
+-- the budget is at least 3^N, where N counts rows and stays, and each quantity fits at each corner of each
+-- trial
 pub record HasRoom (p : Problem) (budget : ℕ) : Type 0 where
   pub exchanges : 3 ^ (length p.rows + length p.stays) ≤ budget
   pub fits : (ids : List ℕ) → AreRequired p ids → AllFit (trial p ids) []

@@ -1,5 +1,5 @@
 -- The row of a suggestion: that an attribute of a view has a value.
-use Rattle.std.specs.Prelude.{◌≡◌, ℕ, ◌*◌, ◌<◌, ◌≤◌, List, [], ◌∷◌, Option, Some, None, pos, ⊤}
+use Rattle.std.specs.Prelude.{◌≡◌, ℕ, ◌*◌, ◌<◌, ◌≤◌, List, [], ◌∷◌, Option, Some, None, pos}
 use Rattle.problem_core.specs.declared.parts.Rel.TheVariants.{Eq}
 use Rattle.problem_core.specs.declared.parts.Term.{Term}
 use Rattle.problem_core.specs.Layout.{Row}
@@ -7,14 +7,11 @@ use Rattle.problem_core.specs.declared.limits.TheConstants.{NUMBER_LIMIT, REQUIR
 use Rattle.span_text.specs.Objects.{Meant}
 use Rattle.span_text.specs.Objects as object
 use Rattle.span_text.specs.declared.limits.TheConstants.{UNIT}
+use Rattle.script_text.specs.Directions.{turned}
 use Rattle.script_text.specs.declared.words.AttrWord.{AttrWord}
 use Rattle.script_text.specs.declared.words.AttrWord.TheVariants as word
-use Rattle.view_tree.specs.Views.{LiveView}
 use Rattle.view_tree.specs.declared.limits.TheConstants.{ID_LIMIT}
 use Rattle.view_tree.specs.Attributes.{left_of, top_of, width_of, height_of}
-use Rattle.compile_parts.specs.Meaning.{MetricList, IsRank, unknown_object}
-use Rattle.compile_parts.specs.declared.stops.RankStop.{RankStop}
-use Rattle.compile_parts.specs.declared.stops.RankStop.TheVariants.{Unknown, NoRank, OutOfMemory}
 use Rattle.constraint_compile.specs.declared.suggestion.Suggestion.{Suggestion}
 use Rattle.constraint_compile.specs.declared.suggestion.TheConstants.{USUAL_RANK}
 
@@ -60,9 +57,10 @@ with_terms s terms = record {
   terms = terms;
 }
 
--- the row of a suggestion: its attribute, so many times as makes its halves whole, is the constant
+-- the row of a suggestion: the attribute that its word names in its direction, so many times as makes its
+-- halves whole, is the constant (`leading` and `trailing` have no halves in either direction)
 abbrev pub suggested_row : Suggestion → Row
-suggested_row s = with_terms s (suggested_terms s.view s.word)
+suggested_row s = with_terms s (suggested_terms s.view (turned s.direction s.word))
 
 -- the numbers are those of a row and of a view
 pub record IsSuggestion (s : Suggestion) : Type 0 where
@@ -70,14 +68,11 @@ pub record IsSuggestion (s : Suggestion) : Type 0 where
   pub rank : s.rank ≤ REQUIRED
   pub view : s.view < ID_LIMIT
 
--- where none is written, the priority is the usual one
-abbrev pub suggested_priority : Option Meant → Option Meant
-suggested_priority None = Some (object.Number (pos (USUAL_RANK * UNIT)))
-suggested_priority (Some priority) = Some priority
+-- where none is written, the priority is this usual one
+abbrev pub priority_or : ℕ → Option Meant → Option Meant
+priority_or usual None = Some (object.Number (pos (usual * UNIT)))
+priority_or usual (Some priority) = Some priority
 
--- why a priority stands for no rank
-abbrev pub MayLackRank : List LiveView → MetricList → Option Meant → RankStop → Type 0
-MayLackRank views metrics priority (Unknown name) = unknown_object views metrics priority ≡ Some name
-MayLackRank views metrics priority NoRank = (unknown_object views metrics priority ≡ None)
-    × ((rank : ℕ) → IsRank views metrics priority rank → ⊥)
-MayLackRank views metrics priority OutOfMemory = ⊤
+-- the priority of a suggestion
+abbrev pub suggested_priority : Option Meant → Option Meant
+suggested_priority priority = priority_or USUAL_RANK priority

@@ -42,5 +42,5 @@ pub use line::signs::negated;
 pub use naming::RowConstant;
 pub use rows::constants_now;
 pub use suggestion::{
-    Suggestion, USUAL_RANK, constants_are_as_said, suggested_constant, suggested_rank,
+    Suggestion, USUAL_RANK, constants_are_as_said, priority_or, suggested_constant,
 };

@@ -12,6 +12,7 @@ ghost use Rattle.std.specs.Prelude.{length, IfOk, OnOk, IfErr, IfSome, IfNone};
 ghost use Rattle.problem_core.specs.declared.limits.TheConstants.{NUMBER_LIMIT};
 ghost use Rattle.view_tree.specs.Views.{LiveView};
 ghost use Rattle.span_text.specs.Objects.{object_view};
+ghost use Rattle.script_text.specs.Directions.{line_in};
 ghost use Rattle.script_text.specs.View.{terms_view, linear_view};
 ghost use Rattle.compile_parts.specs.Meaning.{MetricList, terms_of, views_in, IsRank, IsWeight};
 ghost use Rattle.compile_parts.specs.Meaning.{HasDenominator, has_view_number};
@@ -29,7 +30,7 @@ use compile_parts::{ADDEND_LIMIT, CompileStop, KindWord, Resolved, resolve, reso
 use frac_core::OutOfMemory;
 use name_tables::{LimitWord, Metrics, OwnedName};
 use problem_core::{NUMBER_LIMIT, WEIGHT_LIMIT};
-use script_text::{ExprTerm, Linear};
+use script_text::{Direction, ExprTerm, Linear};
 use std::alloc::Global;
 use view_tree::{Tree, ViewId};
 
@@ -141,19 +142,8 @@ fn with_views(alloc: Global, views: Vec<ViewId>, row: RowForm) -> Result<Compile
     Ok(Compiled::of(rows, views))
 }
 
-/// The row of a linear line, with this number, and the views that the line names.
-///
-/// Every term of the left side is added and every term of the right side subtracted. `Unknown` with the first
-/// name of the line that must be a view's or a metric's and isn't. Otherwise `Kind` with the first wrong use:
-/// `Object` where a view stands for a number, `Priority` where the priority is no whole number from 1 to
-/// [`REQUIRED`](problem_core::REQUIRED), `Weight` where the weight is outside 1 to [`WEIGHT_LIMIT`].
-/// Otherwise `Limit` with the first limit that is passed: `Rows` where the number isn't below
-/// [`NUMBER_LIMIT`], `Terms` at more than [`ADDEND_LIMIT`] terms, `Attributes` at more than
-/// [`TERM_LIMIT`](problem_core::TERM_LIMIT) attributes with coefficients that aren't 0, `Coefficient` where
-/// after some term the scale or a coefficient is past [`COEFFICIENT_LIMIT`](problem_core::COEFFICIENT_LIMIT)
-/// in size, `Constant` where after some term a part of the constant isn't below
-/// [`CONSTANT_LIMIT`](compile_parts::CONSTANT_LIMIT) in size.
-pub fn compile_line(
+// The row of a linear line whose words mean the same in both directions.
+fn compile_turned(
     alloc: Global,
     tree: &Tree,
     metrics: &Metrics,
@@ -178,4 +168,37 @@ pub fn compile_line(
     let resolved = names.terms;
     let row = row_of_addends(alloc, metrics, &resolved.added, head)?;
     Ok(with_views(alloc, resolved.views, row)?)
+}
+
+/// The row of a linear line, with this number, and the views that the line names. The words `leading` and
+/// `trailing` name edges by the direction.
+///
+/// Every term of the left side is added and every term of the right side subtracted. `Unknown` with the first
+/// name of the line that must be a view's or a metric's and isn't. Otherwise `Kind` with the first wrong use:
+/// `Object` where a view stands for a number, `Priority` where the priority is no whole number from 1 to
+/// [`REQUIRED`](problem_core::REQUIRED), `Weight` where the weight is outside 1 to [`WEIGHT_LIMIT`].
+/// Otherwise `Limit` with the first limit that is passed: `Rows` where the number isn't below
+/// [`NUMBER_LIMIT`], `Terms` at more than [`ADDEND_LIMIT`] terms, `Attributes` at more than
+/// [`TERM_LIMIT`](problem_core::TERM_LIMIT) attributes with coefficients that aren't 0, `Coefficient` where
+/// after some term the scale or a coefficient is past [`COEFFICIENT_LIMIT`](problem_core::COEFFICIENT_LIMIT)
+/// in size, `Constant` where after some term a part of the constant isn't below
+/// [`CONSTANT_LIMIT`](compile_parts::CONSTANT_LIMIT) in size.
+// It has six parameters: views and metrics change apart, and the direction is that of the scene.
+pub fn compile_line(
+    alloc: Global,
+    tree: &Tree,
+    metrics: &Metrics,
+    line: &Linear<'_>,
+    id: u32,
+    direction: Direction,
+) -> Result<Compiled, CompileStop>
+    requires { 0 < id }
+    ensures compiled { IfOk result (IsCompiled tree.now.views metrics.now
+        (line_in direction (linear_view line.now)) id) }
+    ensures above { OnOk result (All HasDenominator (terms_of (line_in direction (linear_view line.now)))) }
+    ensures stop { IfErr result (MayStop tree.now.views metrics.now
+        (line_in direction (linear_view line.now)) id) }
+{
+    let line = line.turned(alloc, direction)?;
+    compile_turned(alloc, tree, metrics, &line, id)
 }

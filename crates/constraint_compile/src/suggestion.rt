@@ -5,28 +5,27 @@ ghost use Rattle.frac_core.specs.Fraction.{IsFitting};
 ghost use Rattle.problem_core.specs.Kept.{IsNumber, IsTerm};
 ghost use Rattle.span_text.specs.Objects.{object_view};
 ghost use Rattle.compile_parts.specs.Fractions.{negated, IsConstant, IsSmallConstant};
-ghost use Rattle.compile_parts.specs.Meaning.{IsRank, unknown_object};
-ghost use Rattle.constraint_compile.specs.Suggestions.{one_term, scale_of, suggested_row, suggested_priority};
-ghost use Rattle.constraint_compile.specs.Suggestions.{with_terms, IsSuggestion, MayLackRank};
+ghost use Rattle.constraint_compile.specs.Suggestions.{one_term, priority_or, scale_of, suggested_row};
+ghost use Rattle.constraint_compile.specs.Suggestions.{with_terms, IsSuggestion};
 ghost use Rattle.constraint_compile.specs.Constants.{ConstantsAreAsSaid};
 
-use compile_parts::{RankStop, Ratio, resolve_rank, small_of, times};
+use compile_parts::{Ratio, small_of, times};
 use frac_core::{Frac, OutOfMemory};
-use name_tables::{Metrics, OwnedName};
 use problem_core::{Rel, Row, Term};
-use script_text::AttrWord;
+use script_text::{AttrWord, Direction};
 use span_text::{Object, UNIT};
 use std::alloc::Global;
-use view_tree::{Tree, ViewId};
+use view_tree::ViewId;
 
 /// That an attribute of a view has a value: the number and the rank of the row, the view's number, the
-/// attribute as it is written, and the row's constant.
+/// attribute as it is written, the direction in which that is meant, and the row's constant.
 #[derive(Clone, Copy)]
 pub struct Suggestion {
     pub row: u32,
     pub rank: u16,
     pub view: u32,
     pub word: AttrWord,
+    pub direction: Direction,
     pub constant: Frac,
 }
 
@@ -66,37 +65,15 @@ pub fn suggested_constant(word: AttrWord, value: Frac) -> Option<Frac>
     small_of(Ratio { num, den })
 }
 
-// The priority, which is the usual one where none is written.
-fn or_usual(priority: Option<Object<'_>>) -> Option<Object<'_>>
-    ensures { object_view result ≡ suggested_priority (object_view priority.entry) }
+/// The priority, which is this usual one where none is written.
+pub fn priority_or(priority: Option<Object<'_>>, usual: u16) -> Option<Object<'_>>
+    ensures { object_view result ≡ priority_or usual (object_view priority.entry) }
 {
     match priority {
         Some(priority) => Some(priority),
         None => Some(Object::Number {
-            thousandths: i32::from(USUAL_RANK) * UNIT as i32,
+            thousandths: i32::from(usual) * UNIT as i32,
         }),
-    }
-}
-
-/// The rank that a suggestion's priority stands for: [`USUAL_RANK`] where none is written.
-pub fn suggested_rank(
-    alloc: Global,
-    tree: &Tree,
-    metrics: &Metrics,
-    priority: Option<Object<'_>>,
-) -> Result<u16, RankStop>
-    ensures rank { IfOk result (IsRank tree.now.views metrics.now
-        (suggested_priority (object_view priority.entry))) }
-    ensures known { OnOk result (unknown_object tree.now.views metrics.now
-        (suggested_priority (object_view priority.entry)) ≡ None) }
-    ensures stop { IfErr result (MayLackRank tree.now.views metrics.now
-        (suggested_priority (object_view priority.entry))) }
-{
-    let priority = or_usual(priority);
-    match resolve_rank(tree, metrics, &priority) {
-        Ok(Some(rank)) => Ok(rank),
-        Ok(None) => Err(RankStop::NoRank),
-        Err(name) => Err(RankStop::Unknown(OwnedName::of(alloc, name.as_bytes())?)),
     }
 }
 
@@ -150,7 +127,7 @@ impl Suggestion {
         ensures { IfOk result (λ row. row ≡ suggested_row self.now) }
     {
         let of = ViewId(self.view).attributes();
-        match self.word {
+        match self.word.turned(self.direction) {
             AttrWord::Left | AttrWord::Leading => self.single(alloc, of.left),
             AttrWord::Top => self.single(alloc, of.top),
             AttrWord::Width => self.single(alloc, of.width),

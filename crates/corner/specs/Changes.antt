@@ -6,7 +6,7 @@ use Rattle.problem_core.specs.Corners.{attr_column}
 use Rattle.corner.specs.Views.{CornerView, HasValueAt, Scene}
 pub use Rattle.corner_table.specs.Views.{HasNoNegative}
 pub use Rattle.corner_exchange.specs.Stops.{IsUnfitStop}
-pub use Rattle.corner_joins.specs.Stops.{FromAdded, IsAddStop}
+pub use Rattle.corner_joins.specs.Stops.{AllSumsFit, FromAdded, IsAddStop}
 
 -- the scene of now
 abbrev pub scene_of : CornerView → Scene

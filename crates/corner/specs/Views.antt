@@ -1,4 +1,4 @@
--- What is seen of a corner, and what each corner keeps: words that are written below, passed on from one place.
+-- What is seen of a corner, and what each corner keeps: words written below, passed on from one place.
 pub use Rattle.corner_table.specs.Views.{Scene, CornerView, is_mark, in_order, IsKeptCorner, IsMarkOf}
 pub use Rattle.corner_table.specs.Views.{IsOutside, AreCandidates, IsNamed, IsSettled, HasValueAt, IsColumnOf}
 pub use Rattle.corner_table.specs.Views.{IsWritten, MovesWith, owner_of, AreMovers, HasWriting, IsScaleOf}

@@ -28,7 +28,8 @@ ghost use Rattle.corner.specs.Views.{IsCoefficientOf, IsFrontOf, IsInUse};
 ghost use Rattle.corner.specs.Views.{IsKeptCorner, IsLevelOf, IsMarkOf, IsNamed, IsOutside, IsReducedAt};
 ghost use Rattle.corner.specs.Views.{IsScaleOf, IsSettled};
 ghost use Rattle.corner.specs.Views.{IsStronger, IsWritten, MovesWith};
-ghost use Rattle.corner.specs.Changes.{HasNoNegative, HasStood, IsAddStop, IsAsBefore, IsRewound};
+ghost use Rattle.corner.specs.Changes.{AllSumsFit, HasNoNegative, HasStood, IsAddStop, IsAsBefore};
+ghost use Rattle.corner.specs.Changes.{IsRewound};
 ghost use Rattle.corner.specs.Changes.{IsUnfitStop, scene_of};
 ghost use Rattle.corner_laws.specs.Lifts.{with_rows};
 ghost use Rattle.corner_lines.specs.Joins.{with_attr};
@@ -534,8 +535,8 @@ impl Corner {
     /// costs.
     ///
     /// `Unfit` names a sum of a row's terms, where it and the rows after it are over, or of a level's rows,
-    /// where all rows have joined. It answers no other stop but want of memory. After a stop the corner is
-    /// that of the newest mark.
+    /// where all rows have joined; after `Ok` each of these sums fits. It answers no other stop but want of
+    /// memory. After a stop the corner is that of the newest mark.
     pub fn add_rows(&mut self, rows: &[Row]) -> Result<(), RunStop>
         requires marked { 0 < length self.old.before }
         requires whole { IsWhole (with_rows rows.now self.old.problem) }
@@ -543,6 +544,7 @@ impl Corner {
         ensures problem { IfOk result (λ _. self.new.problem ≡ with_rows rows.now self.old.problem) }
         ensures marks { IfOk result
             (λ _. BeginsWith self.new.problem self.old.marks rows.now [] self.new.marks) }
+        ensures fits { IfOk result (λ _. AllSumsFit self.old rows.now) }
         ensures before { self.new.before ≡ self.old.before }
         ensures stop { IfErr result (IsAddStop self.old rows.now) }
         ensures same { OnErr result (IsRewound self.old self.new) }

@@ -44,8 +44,8 @@
 //!
 //! The lists are a `Table` of `corner_table`, of which `corner_writings` reads. `corner_exchange` goes to the
 //! next corner, `corner_joins` to that of a larger problem. To read: `shifting` goes to that with another
-//! constant, `standing` to that with other targets, `leaving`, with `leaving::freeing` and `leaving::dropping`,
-//! to that of a smaller problem; and `corner` is what callers use.
+//! constant, `standing` to that with other targets, `leaving`, with `leaving::freeing` and
+//! `leaving::dropping`, to that of a smaller problem; and `corner` is what callers use.
 #![tactic(auto)]
 
 mod corner;

@@ -21,8 +21,8 @@
 //! (`IsBestEnd`), where a run begins (`FromHere`), and a lawful path within the budget (`IsRun`). What a run
 //! has done so far is a [`Trail`], which its stops name. What a trail keeps from exchange to exchange is in
 //! the clauses of its calls (`IsTrailOf`): its exchanges lead lawfully from the run's first corner to that of
-//! now. The lemmas here are those that the proofs of both kinds cite: on fronts and signs of columns, on marks
-//! in another order, on the exchanges so far, and on what stops a run.
+//! now. The lemmas here are those that the proofs of both kinds cite: on fronts and signs of columns, on
+//! marks in another order, on the exchanges so far, and on what stops a run.
 //!
 //! To read: `costs` tells what the required rows cost, `numbers` reads a coefficient, `conflicts` divides the
 //! multipliers by their common factor, `begins` finds the marks of a run's first corner from those of now and

@@ -9,3 +9,6 @@ pub mod RowJoins
 pub mod RowPaths
 pub mod RowStops
 pub mod AddedRows
+pub mod SumFits
+pub mod RowFits
+pub mod AllFit

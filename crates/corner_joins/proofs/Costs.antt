@@ -11,3 +11,4 @@ pub mod CostFits
 pub mod CostKept
 pub mod CostEnds
 pub mod CostLoops
+pub mod CostSums

@@ -4,3 +4,4 @@ pub mod RowJoins
 pub mod RowSums
 pub mod CostJoins
 pub mod JoinedLists
+pub mod SumFits

@@ -5,6 +5,7 @@ use Rattle.problem_core.specs.Layout.{Row, Problem}
 use Rattle.problem_core.specs.Changes.Begins.{BeginsWith}
 use Rattle.corner_table.specs.Views.{in_order, CornerView}
 use Rattle.cert_core.specs.Stops.{IsPartial, IsStopOf}
+use Rattle.cert_core.specs.declared.stops.UnfitPath.{UnfitPath}
 use Rattle.cert_core.specs.declared.stops.RunStop.{RunStop}
 use Rattle.cert_core.specs.declared.stops.RunStop.TheVariants.{Conflict, Unfit, Spent, OutOfMemory}
 use Rattle.corner_laws.specs.Lifts.{with_rows}
@@ -25,3 +26,8 @@ IsAddStop old rows (Unfit at) = IsPartial at.quantity
     × IsStopOf false (with_rows rows old.problem) old.problem.rows
     (FromAdded (with_rows rows old.problem) old.marks rows) 0 (Unfit at)
 IsAddStop old rows OutOfMemory = Unit {0}
+
+-- nothing of which that tells: each sum of a new row's terms fits while the rows after it are over, and so
+-- does the cost of a level's rows up to each new one once all have joined
+abbrev pub AllSumsFit : CornerView → List Row → Type 0
+AllSumsFit old rows = (at : UnfitPath) → IsAddStop old rows (Unfit at) → ⊥

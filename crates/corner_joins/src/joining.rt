@@ -20,7 +20,7 @@ ghost use Rattle.corner_table.specs.Tables.{lists_of, marks_at, priority_at as l
 ghost use Rattle.corner_table.specs.declared.table.TheConstants.{LEVELS};
 ghost use Rattle.corner_table.specs.Histories.{HasSameHistory};
 ghost use Rattle.corner_laws.specs.Lifts.{with_rows};
-ghost use Rattle.corner_joins.specs.Stops.{IsAddStop};
+ghost use Rattle.corner_joins.specs.Stops.{AllSumsFit, IsAddStop};
 ghost use Rattle.corner_table.specs.Paths.{IsPathStop};
 ghost use Rattle.corner_table.specs.Invariants.{seen_of};
 ghost use Rattle.corner_table.specs.Kept.{AreSlots, IsKept};
@@ -29,6 +29,7 @@ ghost use Rattle.corner_joins.specs.Additions.RowJoins.{AreAsBefore, ArePushed, 
 ghost use Rattle.corner_joins.specs.Additions.RowJoins.{IsStandingOf};
 ghost use Rattle.corner_joins.specs.Additions.RowSums.{AreTermFactors, HasNextTerm, IsSumRow, IsTermRow};
 ghost use Rattle.corner_joins.specs.Additions.RowSums.{IsTermValue, IsUnfitTerm, term_of};
+ghost use Rattle.corner_joins.specs.Additions.SumFits.{DoCostsFit, DoFirstTermsFit, DoRowsFit, DoTermsFit};
 ghost use Rattle.corner_table.specs.Joining.{IsStayForm, IsWithAttr, at_value, at_zero, slot_of_attr};
 ghost use Rattle.corner_table.specs.Joining.{slot_of_row, slot_of_stay, with_slot};
 ghost use Rattle.std.specs.Prelude.{◌/◌, ℤ, false, List, IfSome, IfNone};
@@ -237,6 +238,7 @@ fn with_term(table: &Table, at: u32, row: &Row, i: usize, sum: &Sum) -> Result<S
     requires at { at ≡ length table.now.slots.items }
     requires sum { HasNextTerm (lists_of table.now) row.now i sum.now }
     ensures sum { IfOk result (IsSumRow (lists_of table.now) row.now (first_terms row.now (i + 1))) }
+    ensures fits { IfOk result (λ _. DoTermsFit (lists_of table.now) row.now (i + 1)) }
     ensures stop { IfErr result (IsTermsStop (lists_of table.now) row.now) }
 {
     let value = term_value(table, row, i, sum)?;
@@ -251,6 +253,7 @@ fn less_constant(table: &Table, row: &Row, sum: &Sum) -> Result<Frac, TableStop>
         (first_terms row.now (length row.now.terms)) sum.now }
     ensures value { IfOk result (λ value. IsSumRow (lists_of table.now) row.now
         (deviation_of (Held row.now.id)) (record { row = sum.now.row; value = value })) }
+    ensures kept { IfOk result fractions.IsKept }
     ensures stop { IfErr result (IsTermsStop (lists_of table.now) row.now) }
 {
     let stop = terms_stop(row.id(), row.terms().len() + 1);
@@ -262,6 +265,8 @@ fn all_terms(table: &Table, row: &Row) -> Result<Sum, TableStop>
     requires row { CanTakeRow (lists_of table.now) row.now }
     ensures sum { IfOk result (IsSumRow (lists_of table.now) row.now
         (first_terms row.now (length row.now.terms))) }
+    ensures fits { IfOk result
+        (λ _. DoFirstTermsFit (lists_of table.now) row.now (length row.now.terms)) }
     ensures stop { IfErr result (IsTermsStop (lists_of table.now) row.now) }
 {
     let at = table.slots.len() as u32;
@@ -279,6 +284,8 @@ fn all_terms(table: &Table, row: &Row) -> Result<Sum, TableStop>
 fn deviation(table: &Table, row: &Row) -> Result<Sum, TableStop>
     requires row { CanTakeRow (lists_of table.now) row.now }
     ensures sum { IfOk result (IsSumRow (lists_of table.now) row.now (deviation_of (Held row.now.id))) }
+    ensures fits { IfOk result
+        (λ _. DoFirstTermsFit (lists_of table.now) row.now (length row.now.terms + 1)) }
     ensures stop { IfErr result (IsTermsStop (lists_of table.now) row.now) }
 {
     let sum = all_terms(table, row)?;
@@ -348,6 +355,7 @@ pub(crate) fn push_row(table: &mut Table, row: &Row) -> Result<(), TableStop>
     ensures lists { OnOk result (IsPushed row.now (lists_of table.old) (lists_of table.new)) }
     ensures joined { OnOk result (IsWithRow row.now (lists_of table.old) (lists_of table.new)) }
     ensures kept { OnOk result (IsPartlyKept (lists_of table.new)) }
+    ensures fits { OnOk result (DoFirstTermsFit (lists_of table.old) row.now (length row.now.terms + 1)) }
     ensures stop { IfErr result (IsTermsStop (lists_of table.old) row.now) }
     ensures same { IfErr result (AreAsBefore (lists_of table.old) (lists_of table.new)) }
 {
@@ -730,6 +738,7 @@ fn push_rows(table: &mut Table, rows: &[Row]) -> Result<(), RunStop>
     ensures kept { OnOk result (IsPartlyKept (lists_of table.new)) }
     ensures values { OnOk result (NoNegativeValue (problem_of (lists_of table.new))
         (marks_at (lists_of table.new))) }
+    ensures fits { OnOk result (DoRowsFit (lists_of table.old) rows.now (length rows.now)) }
     ensures stop { IfErr result (IsAddStop (seen_of (lists_of table.old)) rows.now) }
 {
     for i in 0..rows.len() {
@@ -763,6 +772,8 @@ fn join_costs(table: &mut Table, listed: &mut Listed, rows: &[Row]) -> Result<()
     ensures joined { OnOk result (AreCostsJoined rows.now (lists_of table.old) listed.old
         (lists_of table.new) listed.new) }
     ensures kept { OnOk result (IsKept (lists_of table.new)) }
+    ensures fits { OnOk result ((first : List layout.Row) → AreToJoin (lists_of table.old) first rows.now
+        → DoCostsFit (lists_of table.old) first rows.now (length rows.now)) }
     ensures before { lists_before table.new ≡ lists_before table.old }
     ensures alike { AreAlike table.old → AreAlike table.new }
     ensures stop { IfErr result (λ stop. (first : List layout.Row)
@@ -783,6 +794,7 @@ pub fn join_all(table: &mut Table, listed: &mut Listed, rows: &[Row]) -> Result<
     requires values { NoNegativeValue (problem_of (lists_of table.old)) (marks_at (lists_of table.old)) }
     ensures joined { OnOk result (AreAllJoined rows.now (lists_of table.old) listed.old
         (lists_of table.new) listed.new) }
+    ensures fits { OnOk result (AllSumsFit (seen_of (lists_of table.old)) rows.now) }
     ensures before { lists_before table.new ≡ lists_before table.old }
     ensures alike { AreAlike table.old → AreAlike table.new }
     ensures stop { IfErr result (IsAddStop (seen_of (lists_of table.old)) rows.now) }

@@ -15,3 +15,4 @@ pub mod CornerRays
 pub mod OtherConstants
 pub mod LightRows
 pub mod UnfitWritten
+pub mod RunFalls

@@ -12,3 +12,4 @@ pub mod ExchangeLaws
 pub mod PathLaws
 pub mod ChangeLaws
 pub mod RunLaws
+pub mod RunFalls

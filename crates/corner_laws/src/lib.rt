@@ -20,11 +20,11 @@
 //!   for the mark that enters is the dual ratio test;
 //! - the tie rule of a primal run is the lexicographic one, by which the simplex method cannot cycle.
 //!
-//! In reading order: `writings` (of attributes and marks), `levels` (of levels' costs), `corners` (a corner is
-//! a square system, whatever the constants; what is told as unfit has a writing), `exchanges` (what stays from
-//! one corner to the next), `paths` (how long they are, how costs move along them, what their ends show),
-//! `changes` (where a change begins, and why it stops), `runs` (primal and dual runs, in which no corner comes
-//! twice).
+//! In reading order: `writings` (of attributes and marks), `levels` (of levels' costs), `corners` (a corner
+//! is a square system, whatever the constants; what is told as unfit has a writing), `exchanges` (what stays
+//! from one corner to the next), `paths` (how long they are, how costs move along them, what their ends
+//! show), `changes` (where a change begins, and why it stops), `runs` (primal and dual runs, in which no
+//! corner comes twice).
 #![tactic(auto)]
 
 mod changes;
@@ -51,8 +51,8 @@ pub use paths::{
 };
 pub use runs::{
     dual_order_is_free, dual_run_grows, dual_run_is_path, negative_by_reduced,
-    none_negative_by_reduced, order_is_free, other_mark_grows, required_by_reduced, run_grows,
-    run_is_path, some_mark_falls,
+    none_negative_by_reduced, order_is_free, other_mark_grows, required_by_reduced, run_falls,
+    run_grows, run_is_path, some_mark_falls,
 };
 pub use writings::{
     column_has_writing, ray_is_column, terms_lift, unfit_from_equation, values_are_unique,

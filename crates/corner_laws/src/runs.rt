@@ -1,4 +1,5 @@
 // What holds of runs.
+ghost use Rattle.corner_laws.specs.RunFalls.{RunFalls};
 ghost use Rattle.corner_laws.specs.RunLaws.{DualOrderIsFree, DualRunGrows, DualRunIsPath, NegativeByReduced};
 ghost use Rattle.corner_laws.specs.RunLaws.{NoneNegativeByReduced, OrderIsFree, OtherMarkGrows};
 ghost use Rattle.corner_laws.specs.RunLaws.{RequiredByReduced, RunGrows, RunIsPath, SomeMarkFalls};
@@ -62,4 +63,10 @@ pub fn dual_order_is_free()
 /// dual run.
 pub fn other_mark_grows()
     ensures { OtherMarkGrows }
+{}
+
+/// Along a primal run the levels' costs, each with what it changes by where a mark of the first corner may be
+/// below 0, fall from each corner to each later one.
+pub fn run_falls()
+    ensures { RunFalls }
 {}

@@ -25,7 +25,8 @@ use Rattle.corner_table.specs.declared.table.Owner.{Owner}
 use Rattle.corner_table.specs.declared.table.Owner.TheVariants.{Level as LevelSlot, Attr as AttrSlot}
 use Rattle.corner_table.specs.declared.table.Owner.TheVariants.{Line as LineSlot}
 use Rattle.corner_table.specs.declared.table.TheConstants.{LEVELS}
-use Rattle.corner_table.specs.Tables.{Lists, attr_slot, entry, line_slot, marks_at, number, priority_at, problem_of}
+use Rattle.corner_table.specs.Tables.{Lists, attr_slot, entry, line_slot, marks_at, number, priority_at}
+use Rattle.corner_table.specs.Tables.{problem_of}
 use Rattle.corner_table.specs.Tables.{row_at, slot_at, standing_at}
 
 -- ---- slots

@@ -18,10 +18,10 @@
 //! [`Listed`] is a list of slots, each once: those of the lines that may have a negative column.
 //!
 //! A contract sees the `Lists` of now and of each mark (`lists_of`, `lists_before`). What they keep where an
-//! operation is done is `IsKept` (`specs/Kept.antt`): each attribute and line of the problem has a slot, and a
-//! row and a value there are its equation by the outside lines in lowest terms; those of a level are its cost.
-//! `IsConsistent` (`specs/Invariants.antt`) says it of the earlier versions too. The words for what is seen of
-//! a corner (`specs/Views.antt`) are here, since the lists are read by them.
+//! operation is done is `IsKept` (`specs/Kept.antt`): each attribute and line of the problem has a slot, and
+//! a row and a value there are its equation by the outside lines in lowest terms; those of a level are its
+//! cost. `IsConsistent` (`specs/Invariants.antt`) says it of the earlier versions too. The words for what is
+//! seen of a corner (`specs/Views.antt`) are here, since the lists are read by them.
 //!
 //! To read: `table` has the lists, each with its earlier versions; `slots` finds in them by name; `listing`
 //! lists lines; `marking` names the marks inside and lists the lines of a row; `sums` adds.

@@ -1,10 +1,10 @@
 //! What is written at a corner, read of its lists: of attributes and marks, and of the costs of levels.
 //!
-//! All is asked of a `Table` of `corner_table`. An attribute or an inside mark is written by the outside marks:
-//! [`coefficient`] over [`denominator`], and [`movers`] and [`mover`] tell what moves with an outside mark. A
-//! level's cost is written by them too: [`reduced_at`] is what the level costs more where a mark grows, over
-//! [`scale_at`], and [`times_at`] a line's multiplier. The first of a mark's reduced costs that isn't 0, the
-//! strongest level first, is its [`Front`]:
+//! All is asked of a `Table` of `corner_table`. An attribute or an inside mark is written by the outside
+//! marks: [`coefficient`] over [`denominator`], and [`movers`] and [`mover`] tell what moves with an outside
+//! mark. A level's cost is written by them too: [`reduced_at`] is what the level costs more where a mark
+//! grows, over [`scale_at`], and [`times_at`] a line's multiplier. The first of a mark's reduced costs that
+//! isn't 0, the strongest level first, is its [`Front`]:
 //!
 //! ```
 //! front_of(&table, mark)                        // Some(Front { level, reduced }), or None where all are 0
@@ -16,11 +16,11 @@
 //! What always holds: no list of the table changes, and where the lists keep `IsKept`, each answer is that of
 //! the problem's writings at its marks inside.
 //!
-//! Linear programming's words: a writing is a row of the tableau in lowest terms, [`reduced_at`] a reduced cost
-//! at one level, [`times_at`] a simplex multiplier.
+//! Linear programming's words: a writing is a row of the tableau in lowest terms, [`reduced_at`] a reduced
+//! cost at one level, [`times_at`] a simplex multiplier.
 //!
-//! To read: `writings` (attributes and marks), `lows` (lines with negative values), `levels` (costs and fronts),
-//! `levels::growing` (what it costs where an inside mark grows) and `levels::fitting` (what fits).
+//! To read: `writings` (attributes and marks), `lows` (lines with negative values), `levels` (costs and
+//! fronts), `levels::growing` (what it costs where an inside mark grows) and `levels::fitting` (what fits).
 #![tactic(auto)]
 
 mod levels;

@@ -140,6 +140,7 @@ wrong views metrics axis align ps a kind.Priority parent space ranks is = (is.0,
 wrong views metrics axis align ps a kind.Weight parent space ranks is = absurd is
 wrong views metrics axis align ps a kind.Window parent space ranks is = absurd is
 wrong views metrics axis align ps a kind.Suggested parent space ranks is = absurd is
+wrong views metrics axis align ps a kind.Sized parent space ranks is = absurd is
 wrong views metrics axis align ps a kind.Tree parent space ranks is = absurd is
 
 -- no row's number is past the last one

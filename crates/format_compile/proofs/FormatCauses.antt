@@ -8,6 +8,7 @@ use Rattle.name_tables.specs.declared.stops.LimitWord.TheVariants as limit
 use Rattle.vfl_text.specs.Formats.{FormatMeaning}
 use Rattle.vfl_text.specs.declared.parts.Axis.{Axis}
 use Rattle.script_text.specs.declared.words.Align.{Align}
+use Rattle.script_text.specs.declared.words.Direction.{Direction}
 use Rattle.script_text.specs.Meaning.{Linear}
 use Rattle.script_text.specs.Meaning as mean
 use Rattle.view_tree.specs.Views.{LiveView}
@@ -86,6 +87,7 @@ usable_right views metrics axis align ps kind.Priority usable wrong = wrong.3 us
 usable_right views metrics axis align ps kind.Weight usable wrong = absurd wrong
 usable_right views metrics axis align ps kind.Window usable wrong = absurd wrong
 usable_right views metrics axis align ps kind.Suggested usable wrong = absurd wrong
+usable_right views metrics axis align ps kind.Sized usable wrong = absurd wrong
 usable_right views metrics axis align ps kind.Tree usable wrong = absurd wrong
 
 -- a format has one wrong use at most that is the first
@@ -97,6 +99,7 @@ wrong_same views metrics axis align ps kind.Align kind.Priority h k = absurd (cl
 wrong_same views metrics axis align ps kind.Align kind.Weight h k = absurd k
 wrong_same views metrics axis align ps kind.Align kind.Window h k = absurd k
 wrong_same views metrics axis align ps kind.Align kind.Suggested h k = absurd k
+wrong_same views metrics axis align ps kind.Align kind.Sized h k = absurd k
 wrong_same views metrics axis align ps kind.Align kind.Tree h k = absurd k
 wrong_same views metrics axis align ps kind.Parent kind.Align h k = absurd (clash (is_along axis align) k h.0)
 wrong_same views metrics axis align ps kind.Parent kind.Parent h k = refl
@@ -105,6 +108,7 @@ wrong_same views metrics axis align ps kind.Parent kind.Priority h k = absurd (c
 wrong_same views metrics axis align ps kind.Parent kind.Weight h k = absurd k
 wrong_same views metrics axis align ps kind.Parent kind.Window h k = absurd k
 wrong_same views metrics axis align ps kind.Parent kind.Suggested h k = absurd k
+wrong_same views metrics axis align ps kind.Parent kind.Sized h k = absurd k
 wrong_same views metrics axis align ps kind.Parent kind.Tree h k = absurd k
 wrong_same views metrics axis align ps kind.Object kind.Align h k = absurd (clash (is_along axis align) k h.0)
 wrong_same views metrics axis align ps kind.Object kind.Parent h k = absurd (clash (list_any (lacks_parent views) ps) k.1 h.1)
@@ -113,6 +117,7 @@ wrong_same views metrics axis align ps kind.Object kind.Priority h k = absurd (c
 wrong_same views metrics axis align ps kind.Object kind.Weight h k = absurd k
 wrong_same views metrics axis align ps kind.Object kind.Window h k = absurd k
 wrong_same views metrics axis align ps kind.Object kind.Suggested h k = absurd k
+wrong_same views metrics axis align ps kind.Object kind.Sized h k = absurd k
 wrong_same views metrics axis align ps kind.Object kind.Tree h k = absurd k
 wrong_same views metrics axis align ps kind.Priority kind.Align h k = absurd (clash (is_along axis align) k h.0)
 wrong_same views metrics axis align ps kind.Priority kind.Parent h k = absurd (clash (list_any (lacks_parent views) ps) k.1 h.1)
@@ -121,10 +126,12 @@ wrong_same views metrics axis align ps kind.Priority kind.Priority h k = refl
 wrong_same views metrics axis align ps kind.Priority kind.Weight h k = absurd k
 wrong_same views metrics axis align ps kind.Priority kind.Window h k = absurd k
 wrong_same views metrics axis align ps kind.Priority kind.Suggested h k = absurd k
+wrong_same views metrics axis align ps kind.Priority kind.Sized h k = absurd k
 wrong_same views metrics axis align ps kind.Priority kind.Tree h k = absurd k
 wrong_same views metrics axis align ps kind.Weight other h k = absurd h
 wrong_same views metrics axis align ps kind.Window other h k = absurd h
 wrong_same views metrics axis align ps kind.Suggested other h k = absurd h
+wrong_same views metrics axis align ps kind.Sized other h k = absurd h
 wrong_same views metrics axis align ps kind.Tree other h k = absurd h
 
 -- a format has one limit at most that it passes first
@@ -188,40 +195,40 @@ pass_same views metrics ps first limit.Budget other h k = absurd h.1
 
 -- ---- formats
 
-pub compiled_count : (views : List LiveView) (metrics : MetricList) (f : FormatMeaning) (align : Option Align) (first : ℕ) (c : CompiledLine) → IsCompiledFormat views metrics f align first c → length c.rows ≡ row_count views (parts f align)
-compiled_count views metrics f align first c is = rows_long views metrics (lines_of views (parts f align)) first c.rows is.rows
+pub compiled_count : (views : List LiveView) (metrics : MetricList) (f : FormatMeaning) (align : Option Align) (d : Direction) (first : ℕ) (c : CompiledLine) → IsCompiledFormat views metrics f align d first c → length c.rows ≡ row_count views (parts f align d)
+compiled_count views metrics f align d first c is = rows_long views metrics (lines_of views (parts f align d)) first c.rows is.rows
 
-limit_refused : (views : List LiveView) (metrics : MetricList) (f : FormatMeaning) (align : Option Align) (first : ℕ) (c : CompiledLine) (word : LimitWord) → IsCompiledFormat views metrics f align first c → PassesInFormat views metrics (parts f align) first word → ⊥
-limit_refused views metrics f align first c limit.Rows is passes = is.numbers passes
-limit_refused views metrics f align first c limit.Line is passes = rows_pass_none views metrics (lines_of views (parts f align)) first c.rows limit.Line is.rows passes.1
-limit_refused views metrics f align first c limit.Name is passes = rows_pass_none views metrics (lines_of views (parts f align)) first c.rows limit.Name is.rows passes.1
-limit_refused views metrics f align first c limit.Views is passes = rows_pass_none views metrics (lines_of views (parts f align)) first c.rows limit.Views is.rows passes.1
-limit_refused views metrics f align first c limit.Depth is passes = rows_pass_none views metrics (lines_of views (parts f align)) first c.rows limit.Depth is.rows passes.1
-limit_refused views metrics f align first c limit.Metrics is passes = rows_pass_none views metrics (lines_of views (parts f align)) first c.rows limit.Metrics is.rows passes.1
-limit_refused views metrics f align first c limit.Lines is passes = rows_pass_none views metrics (lines_of views (parts f align)) first c.rows limit.Lines is.rows passes.1
-limit_refused views metrics f align first c limit.Terms is passes = rows_pass_none views metrics (lines_of views (parts f align)) first c.rows limit.Terms is.rows passes.1
-limit_refused views metrics f align first c limit.Attributes is passes = rows_pass_none views metrics (lines_of views (parts f align)) first c.rows limit.Attributes is.rows passes.1
-limit_refused views metrics f align first c limit.Coefficient is passes = rows_pass_none views metrics (lines_of views (parts f align)) first c.rows limit.Coefficient is.rows passes.1
-limit_refused views metrics f align first c limit.Constant is passes = rows_pass_none views metrics (lines_of views (parts f align)) first c.rows limit.Constant is.rows passes.1
-limit_refused views metrics f align first c limit.Budget is passes = rows_pass_none views metrics (lines_of views (parts f align)) first c.rows limit.Budget is.rows passes.1
+limit_refused : (views : List LiveView) (metrics : MetricList) (f : FormatMeaning) (align : Option Align) (d : Direction) (first : ℕ) (c : CompiledLine) (word : LimitWord) → IsCompiledFormat views metrics f align d first c → PassesInFormat views metrics (parts f align d) first word → ⊥
+limit_refused views metrics f align d first c limit.Rows is passes = is.numbers passes
+limit_refused views metrics f align d first c limit.Line is passes = rows_pass_none views metrics (lines_of views (parts f align d)) first c.rows limit.Line is.rows passes.1
+limit_refused views metrics f align d first c limit.Name is passes = rows_pass_none views metrics (lines_of views (parts f align d)) first c.rows limit.Name is.rows passes.1
+limit_refused views metrics f align d first c limit.Views is passes = rows_pass_none views metrics (lines_of views (parts f align d)) first c.rows limit.Views is.rows passes.1
+limit_refused views metrics f align d first c limit.Depth is passes = rows_pass_none views metrics (lines_of views (parts f align d)) first c.rows limit.Depth is.rows passes.1
+limit_refused views metrics f align d first c limit.Metrics is passes = rows_pass_none views metrics (lines_of views (parts f align d)) first c.rows limit.Metrics is.rows passes.1
+limit_refused views metrics f align d first c limit.Lines is passes = rows_pass_none views metrics (lines_of views (parts f align d)) first c.rows limit.Lines is.rows passes.1
+limit_refused views metrics f align d first c limit.Terms is passes = rows_pass_none views metrics (lines_of views (parts f align d)) first c.rows limit.Terms is.rows passes.1
+limit_refused views metrics f align d first c limit.Attributes is passes = rows_pass_none views metrics (lines_of views (parts f align d)) first c.rows limit.Attributes is.rows passes.1
+limit_refused views metrics f align d first c limit.Coefficient is passes = rows_pass_none views metrics (lines_of views (parts f align d)) first c.rows limit.Coefficient is.rows passes.1
+limit_refused views metrics f align d first c limit.Constant is passes = rows_pass_none views metrics (lines_of views (parts f align d)) first c.rows limit.Constant is.rows passes.1
+limit_refused views metrics f align d first c limit.Budget is passes = rows_pass_none views metrics (lines_of views (parts f align d)) first c.rows limit.Budget is.rows passes.1
 
-pub compiled_refused : (views : List LiveView) (metrics : MetricList) (f : FormatMeaning) (align : Option Align) (first : ℕ) (c : CompiledLine) (stop : CompileStop) → IsCompiledFormat views metrics f align first c → MayStopFormat views metrics f align first stop → stop ≡ OutOfMemory
-compiled_refused views metrics f align first c (Unknown name) is stop = absurd (none_some (unknown_parts views metrics (parts f align)) name is.usable.known stop)
-compiled_refused views metrics f align first c (Kind word) is stop = absurd (usable_right views metrics f.axis align (parts f align) word is.usable stop.1)
-compiled_refused views metrics f align first c (Limit word) is stop = absurd (limit_refused views metrics f align first c word is stop.1)
-compiled_refused views metrics f align first c OutOfMemory is stop = refl
+pub compiled_refused : (views : List LiveView) (metrics : MetricList) (f : FormatMeaning) (align : Option Align) (d : Direction) (first : ℕ) (c : CompiledLine) (stop : CompileStop) → IsCompiledFormat views metrics f align d first c → MayStopFormat views metrics f align d first stop → stop ≡ OutOfMemory
+compiled_refused views metrics f align d first c (Unknown name) is stop = absurd (none_some (unknown_parts views metrics (parts f align d)) name is.usable.known stop)
+compiled_refused views metrics f align d first c (Kind word) is stop = absurd (usable_right views metrics f.axis align (parts f align d) word is.usable stop.1)
+compiled_refused views metrics f align d first c (Limit word) is stop = absurd (limit_refused views metrics f align d first c word is stop.1)
+compiled_refused views metrics f align d first c OutOfMemory is stop = refl
 
-pub refused_once : (views : List LiveView) (metrics : MetricList) (f : FormatMeaning) (align : Option Align) (first : ℕ) (one other : CompileStop) → MayStopFormat views metrics f align first one → MayStopFormat views metrics f align first other → (one ≡ OutOfMemory → ⊥) → (other ≡ OutOfMemory → ⊥) → one ≡ other
-refused_once views metrics f align first OutOfMemory other h k some more = absurd (some refl)
-refused_once views metrics f align first (Unknown name) OutOfMemory h k some more = absurd (more refl)
-refused_once views metrics f align first (Kind word) OutOfMemory h k some more = absurd (more refl)
-refused_once views metrics f align first (Limit word) OutOfMemory h k some more = absurd (more refl)
-refused_once views metrics f align first (Unknown name) (Unknown same) h k some more = ap Unknown (some_same name same (sym h ∙ k))
-refused_once views metrics f align first (Unknown name) (Kind word) h k some more = absurd (none_some (unknown_parts views metrics (parts f align)) name k.0 h)
-refused_once views metrics f align first (Unknown name) (Limit word) h k some more = absurd (none_some (unknown_parts views metrics (parts f align)) name k.0.known h)
-refused_once views metrics f align first (Kind word) (Unknown name) h k some more = absurd (none_some (unknown_parts views metrics (parts f align)) name h.0 k)
-refused_once views metrics f align first (Limit word) (Unknown name) h k some more = absurd (none_some (unknown_parts views metrics (parts f align)) name h.0.known k)
-refused_once views metrics f align first (Kind word) (Kind same) h k some more = ap Kind (wrong_same views metrics f.axis align (parts f align) word same h.1 k.1)
-refused_once views metrics f align first (Kind word) (Limit same) h k some more = absurd (usable_right views metrics f.axis align (parts f align) word k.0 h.1)
-refused_once views metrics f align first (Limit word) (Kind same) h k some more = absurd (usable_right views metrics f.axis align (parts f align) same h.0 k.1)
-refused_once views metrics f align first (Limit word) (Limit same) h k some more = ap Limit (pass_same views metrics (parts f align) first word same h.1 k.1)
+pub refused_once : (views : List LiveView) (metrics : MetricList) (f : FormatMeaning) (align : Option Align) (d : Direction) (first : ℕ) (one other : CompileStop) → MayStopFormat views metrics f align d first one → MayStopFormat views metrics f align d first other → (one ≡ OutOfMemory → ⊥) → (other ≡ OutOfMemory → ⊥) → one ≡ other
+refused_once views metrics f align d first OutOfMemory other h k some more = absurd (some refl)
+refused_once views metrics f align d first (Unknown name) OutOfMemory h k some more = absurd (more refl)
+refused_once views metrics f align d first (Kind word) OutOfMemory h k some more = absurd (more refl)
+refused_once views metrics f align d first (Limit word) OutOfMemory h k some more = absurd (more refl)
+refused_once views metrics f align d first (Unknown name) (Unknown same) h k some more = ap Unknown (some_same name same (sym h ∙ k))
+refused_once views metrics f align d first (Unknown name) (Kind word) h k some more = absurd (none_some (unknown_parts views metrics (parts f align d)) name k.0 h)
+refused_once views metrics f align d first (Unknown name) (Limit word) h k some more = absurd (none_some (unknown_parts views metrics (parts f align d)) name k.0.known h)
+refused_once views metrics f align d first (Kind word) (Unknown name) h k some more = absurd (none_some (unknown_parts views metrics (parts f align d)) name h.0 k)
+refused_once views metrics f align d first (Limit word) (Unknown name) h k some more = absurd (none_some (unknown_parts views metrics (parts f align d)) name h.0.known k)
+refused_once views metrics f align d first (Kind word) (Kind same) h k some more = ap Kind (wrong_same views metrics f.axis align (parts f align d) word same h.1 k.1)
+refused_once views metrics f align d first (Kind word) (Limit same) h k some more = absurd (usable_right views metrics f.axis align (parts f align d) word k.0 h.1)
+refused_once views metrics f align d first (Limit word) (Kind same) h k some more = absurd (usable_right views metrics f.axis align (parts f align d) same h.0 k.1)
+refused_once views metrics f align d first (Limit word) (Limit same) h k some more = ap Limit (pass_same views metrics (parts f align d) first word same h.1 k.1)

@@ -14,6 +14,7 @@ use Rattle.constraint_compile.specs.Compiled.{RowForm}
 use Rattle.constraint_compile.specs.Stops.{IsRowStop}
 use Rattle.vfl_text.specs.Formats.{FormatMeaning}
 use Rattle.script_text.specs.declared.words.Align.{Align}
+use Rattle.script_text.specs.declared.words.Direction.{Direction}
 use Rattle.format_compile.specs.declared.parts.Part as declared_part
 use Rattle.format_compile.specs.FormatViews.{part_view, parts_view}
 use Rattle.format_compile.specs.FormatRefusals.{HasPartRank, HaveRanks}
@@ -208,23 +209,23 @@ ranks_at views metrics [] i d within ranks = absurd (omega (arith, within))
 -- ---- formats
 
 -- a format with nothing wrong whose lines have no rows
-pub rows_stop : (views : List LiveView) (metrics : MetricList) (f : FormatMeaning) (align : Option Align) (first : ℕ) (stop : CompileStop) → IsUsableFormat views metrics f.axis align (parts f align) → (IsPastNumbers first (row_count views (parts f align)) → ⊥) → HaveNoRows views metrics (lines_of views (parts f align)) stop → MayStopFormat views metrics f align first stop
-rows_stop views metrics f align first (Limit limit.Attributes) usable numbers none = (usable, (numbers, none))
-rows_stop views metrics f align first (Limit limit.Coefficient) usable numbers none = (usable, (numbers, none))
-rows_stop views metrics f align first (Limit limit.Constant) usable numbers none = (usable, (numbers, none))
-rows_stop views metrics f align first (Limit limit.Line) usable numbers none = absurd none
-rows_stop views metrics f align first (Limit limit.Name) usable numbers none = absurd none
-rows_stop views metrics f align first (Limit limit.Views) usable numbers none = absurd none
-rows_stop views metrics f align first (Limit limit.Depth) usable numbers none = absurd none
-rows_stop views metrics f align first (Limit limit.Metrics) usable numbers none = absurd none
-rows_stop views metrics f align first (Limit limit.Lines) usable numbers none = absurd none
-rows_stop views metrics f align first (Limit limit.Rows) usable numbers none = absurd none
-rows_stop views metrics f align first (Limit limit.Terms) usable numbers none = absurd none
-rows_stop views metrics f align first (Limit limit.Budget) usable numbers none = absurd none
-rows_stop views metrics f align first OutOfMemory usable numbers none = tt
-rows_stop views metrics f align first (Unknown name) usable numbers none = absurd none
-rows_stop views metrics f align first (Kind word) usable numbers none = absurd none
+pub rows_stop : (views : List LiveView) (metrics : MetricList) (f : FormatMeaning) (align : Option Align) (d : Direction) (first : ℕ) (stop : CompileStop) → IsUsableFormat views metrics f.axis align (parts f align d) → (IsPastNumbers first (row_count views (parts f align d)) → ⊥) → HaveNoRows views metrics (lines_of views (parts f align d)) stop → MayStopFormat views metrics f align d first stop
+rows_stop views metrics f align d first (Limit limit.Attributes) usable numbers none = (usable, (numbers, none))
+rows_stop views metrics f align d first (Limit limit.Coefficient) usable numbers none = (usable, (numbers, none))
+rows_stop views metrics f align d first (Limit limit.Constant) usable numbers none = (usable, (numbers, none))
+rows_stop views metrics f align d first (Limit limit.Line) usable numbers none = absurd none
+rows_stop views metrics f align d first (Limit limit.Name) usable numbers none = absurd none
+rows_stop views metrics f align d first (Limit limit.Views) usable numbers none = absurd none
+rows_stop views metrics f align d first (Limit limit.Depth) usable numbers none = absurd none
+rows_stop views metrics f align d first (Limit limit.Metrics) usable numbers none = absurd none
+rows_stop views metrics f align d first (Limit limit.Lines) usable numbers none = absurd none
+rows_stop views metrics f align d first (Limit limit.Rows) usable numbers none = absurd none
+rows_stop views metrics f align d first (Limit limit.Terms) usable numbers none = absurd none
+rows_stop views metrics f align d first (Limit limit.Budget) usable numbers none = absurd none
+rows_stop views metrics f align d first OutOfMemory usable numbers none = tt
+rows_stop views metrics f align d first (Unknown name) usable numbers none = absurd none
+rows_stop views metrics f align d first (Kind word) usable numbers none = absurd none
 
-pub parts_stop : (views : List LiveView) (metrics : MetricList) (f : FormatMeaning) (align : Option Align) (first : ℕ) (stop : CompileStop) (ps : List Part) → ps ≡ parts f align → IsUsableFormat views metrics f.axis align ps → (IsPastNumbers first (row_count views ps) → ⊥) → HaveNoRows views metrics (lines_of views ps) stop → MayStopFormat views metrics f align first stop
-parts_stop views metrics f align first stop ps same usable numbers none =
-    rows_stop views metrics f align first stop (subst (IsUsableFormat views metrics f.axis align) same usable) (subst (λ (qs : List Part). IsPastNumbers first (row_count views qs) → ⊥) same numbers) (subst (λ (qs : List Part). HaveNoRows views metrics (lines_of views qs) stop) same none)
+pub parts_stop : (views : List LiveView) (metrics : MetricList) (f : FormatMeaning) (align : Option Align) (d : Direction) (first : ℕ) (stop : CompileStop) (ps : List Part) → ps ≡ parts f align d → IsUsableFormat views metrics f.axis align ps → (IsPastNumbers first (row_count views ps) → ⊥) → HaveNoRows views metrics (lines_of views ps) stop → MayStopFormat views metrics f align d first stop
+parts_stop views metrics f align d first stop ps same usable numbers none =
+    rows_stop views metrics f align d first stop (subst (IsUsableFormat views metrics f.axis align) same usable) (subst (λ (qs : List Part). IsPastNumbers first (row_count views qs) → ⊥) same numbers) (subst (λ (qs : List Part). HaveNoRows views metrics (lines_of views qs) stop) same none)

@@ -2,6 +2,7 @@
 use Rattle.std.specs.Prelude.{◌≡◌, ℕ, List, Option, length}
 use Rattle.vfl_text.specs.Formats.{FormatMeaning}
 use Rattle.script_text.specs.declared.words.Align.{Align}
+use Rattle.script_text.specs.declared.words.Direction.{Direction}
 use Rattle.view_tree.specs.Views.{LiveView}
 use Rattle.compile_parts.specs.Meaning.{MetricList}
 use Rattle.constraint_compile.specs.Compiled.{CompiledLine}
@@ -14,19 +15,19 @@ use Rattle.compile_parts.specs.declared.stops.CompileStop.TheVariants.{OutOfMemo
 -- a format that is compiled has as many rows as it asks for
 abbrev pub CompiledFormatsHaveAllRows : Type 0
 CompiledFormatsHaveAllRows = (views : List LiveView) (metrics : MetricList) (f : FormatMeaning)
-    (align : Option Align) (first : ℕ) (c : CompiledLine) → IsCompiledFormat views metrics f align first c
-    → length c.rows ≡ row_count views (parts f align)
+    (align : Option Align) (d : Direction) (first : ℕ) (c : CompiledLine)
+    → IsCompiledFormat views metrics f align d first c → length c.rows ≡ row_count views (parts f align d)
 
 -- a format that is compiled has no cause of refusal, but for want of memory
 abbrev pub CompiledFormatsHaveNoRefusal : Type 0
 CompiledFormatsHaveNoRefusal = (views : List LiveView) (metrics : MetricList) (f : FormatMeaning)
-    (align : Option Align) (first : ℕ) (c : CompiledLine) (stop : declared_stop.CompileStop)
-    → IsCompiledFormat views metrics f align first c → MayStopFormat views metrics f align first stop
+    (align : Option Align) (d : Direction) (first : ℕ) (c : CompiledLine) (stop : declared_stop.CompileStop)
+    → IsCompiledFormat views metrics f align d first c → MayStopFormat views metrics f align d first stop
     → stop ≡ OutOfMemory
 
 -- a format has one cause of refusal at most, but for want of memory
 abbrev pub FormatRefusalIsUnique : Type 0
 FormatRefusalIsUnique = (views : List LiveView) (metrics : MetricList) (f : FormatMeaning)
-    (align : Option Align) (first : ℕ) (one other : declared_stop.CompileStop)
-    → MayStopFormat views metrics f align first one → MayStopFormat views metrics f align first other
+    (align : Option Align) (d : Direction) (first : ℕ) (one other : declared_stop.CompileStop)
+    → MayStopFormat views metrics f align d first one → MayStopFormat views metrics f align d first other
     → (one ≡ OutOfMemory → ⊥) → (other ≡ OutOfMemory → ⊥) → one ≡ other

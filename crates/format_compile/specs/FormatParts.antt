@@ -10,6 +10,10 @@ use Rattle.script_text.specs.declared.words.Align.{Align}
 use Rattle.script_text.specs.declared.words.Align.TheVariants as align
 use Rattle.script_text.specs.declared.words.AttrWord.{AttrWord}
 use Rattle.script_text.specs.declared.words.AttrWord.TheVariants as word
+use Rattle.script_text.specs.declared.words.Direction.{Direction}
+use Rattle.script_text.specs.declared.words.Direction.TheVariants as direction
+use Rattle.format_compile.specs.declared.parts.Course.{Course}
+use Rattle.format_compile.specs.declared.parts.Course.TheVariants as course
 use Rattle.format_compile.specs.declared.parts.Owner.{Owner}
 use Rattle.format_compile.specs.declared.parts.Owner.TheVariants as owner
 use Rattle.format_compile.specs.declared.lists.TheConstants.{USUAL_BETWEEN, USUAL_INSIDE}
@@ -33,20 +37,39 @@ pub data Part : Type 0 where
 
 -- ---- what is measured
 
--- the edge at which a view begins in this direction
-abbrev pub near : Axis → AttrWord
-near axis.H = word.Left
-near axis.V = word.Top
+-- the way of a horizontal format
+abbrev pub course_across : Direction → Course
+course_across direction.Ltr = course.Rightwards
+course_across direction.Rtl = course.Leftwards
 
--- the edge at which a view ends in this direction
-abbrev pub far : Axis → AttrWord
-far axis.H = word.Right
-far axis.V = word.Bottom
+-- the way in which a format's views follow each other
+abbrev pub course_of : Direction → Axis → Course
+course_of d axis.H = course_across d
+course_of d axis.V = course.Downwards
 
--- the size of a view in this direction
-abbrev pub extent : Axis → AttrWord
-extent axis.H = word.Width
-extent axis.V = word.Height
+-- the edge at which a view begins on this way
+abbrev pub near : Course → AttrWord
+near course.Rightwards = word.Left
+near course.Leftwards = word.Right
+near course.Downwards = word.Top
+
+-- the edge at which it ends
+abbrev pub far : Course → AttrWord
+far course.Rightwards = word.Right
+far course.Leftwards = word.Left
+far course.Downwards = word.Bottom
+
+-- its size along this way
+abbrev pub extent : Course → AttrWord
+extent course.Rightwards = word.Width
+extent course.Leftwards = word.Width
+extent course.Downwards = word.Height
+
+-- how far it is from one end on to the other: the greater less the lesser
+abbrev pub onwards : Course → End → End → Span
+onwards course.Rightwards from to = record { plus = to; minus = Some from }
+onwards course.Leftwards from to = record { plus = from; minus = Some to }
+onwards course.Downwards from to = record { plus = to; minus = Some from }
 
 -- this attribute of the view of this name
 abbrev pub own : List ℕ → AttrWord → End
@@ -57,20 +80,20 @@ abbrev pub parents : List ℕ → AttrWord → End
 parents name w = record { owner = owner.Parent; view = name; word = w }
 
 -- from the parent to its view
-abbrev pub inside_near : Axis → List ℕ → Span
-inside_near a name = record { plus = own name (near a); minus = Some (parents name (near a)) }
+abbrev pub inside_near : Course → List ℕ → Span
+inside_near c name = onwards c (parents name (near c)) (own name (near c))
 
 -- from one view to the next
-abbrev pub between : Axis → List ℕ → List ℕ → Span
-between a before name = record { plus = own name (near a); minus = Some (own before (far a)) }
+abbrev pub between : Course → List ℕ → List ℕ → Span
+between c before name = onwards c (own before (far c)) (own name (near c))
 
 -- from the view to its parent
-abbrev pub inside_far : Axis → List ℕ → Span
-inside_far a name = record { plus = parents name (far a); minus = Some (own name (far a)) }
+abbrev pub inside_far : Course → List ℕ → Span
+inside_far c name = onwards c (own name (far c)) (parents name (far c))
 
 -- the view along the format
-abbrev pub size : Axis → List ℕ → Span
-size a name = record { plus = own name (extent a); minus = None }
+abbrev pub size : Course → List ℕ → Span
+size c name = record { plus = own name (extent c); minus = None }
 
 -- how far the view is off the one before it
 abbrev pub off : AttrWord → List ℕ → List ℕ → Span
@@ -93,25 +116,25 @@ spacing_parts s usual Standard = Asks s (exactly usual) ∷ []
 spacing_parts s usual (Given ps) = asks s ps
 
 -- the name of an item's view, and the rows of its size
-abbrev pub item_parts : Axis → ItemMeaning → List Part
-item_parts a i = View i.name ∷ asks (size a i.name) i.sizes
+abbrev pub item_parts : Course → ItemMeaning → List Part
+item_parts c i = View i.name ∷ asks (size c i.name) i.sizes
 
 -- the views behind the one of this name, each with the connection before it
-abbrev pub chain_parts : Axis → List ℕ → List SpacingMeaning → List ItemMeaning → List Part
-chain_parts a before [] is = []
-chain_parts a before (g ∷ gs) [] = []
-chain_parts a before (g ∷ gs) (i ∷ is) = spacing_parts (between a before i.name) USUAL_BETWEEN g
-    ++ (item_parts a i ++ chain_parts a i.name gs is)
+abbrev pub chain_parts : Course → List ℕ → List SpacingMeaning → List ItemMeaning → List Part
+chain_parts c before [] is = []
+chain_parts c before (g ∷ gs) [] = []
+chain_parts c before (g ∷ gs) (i ∷ is) = spacing_parts (between c before i.name) USUAL_BETWEEN g
+    ++ (item_parts c i ++ chain_parts c i.name gs is)
 
 -- the parent's bar in front of the view of this name, and the connection to it, if there is one
-abbrev pub front_parts : Axis → List ℕ → Option SpacingMeaning → List Part
-front_parts a name None = []
-front_parts a name (Some g) = Bar name ∷ spacing_parts (inside_near a name) USUAL_INSIDE g
+abbrev pub front_parts : Course → List ℕ → Option SpacingMeaning → List Part
+front_parts c name None = []
+front_parts c name (Some g) = Bar name ∷ spacing_parts (inside_near c name) USUAL_INSIDE g
 
 -- the parent's bar behind the view of this name, and the connection to it, if there is one
-abbrev pub back_parts : Axis → List ℕ → Option SpacingMeaning → List Part
-back_parts a name None = []
-back_parts a name (Some g) = Bar name ∷ spacing_parts (inside_far a name) USUAL_INSIDE g
+abbrev pub back_parts : Course → List ℕ → Option SpacingMeaning → List Part
+back_parts c name None = []
+back_parts c name (Some g) = Bar name ∷ spacing_parts (inside_far c name) USUAL_INSIDE g
 
 -- ---- alignment
 
@@ -141,16 +164,18 @@ abbrev pub last_name : List ℕ → List ItemMeaning → List ℕ
 last_name name [] = name
 last_name name (i ∷ is) = last_name i.name is
 
--- what the format and the alignment say where these are the items, and nothing where there is none
-abbrev pub parts_over : FormatMeaning → Option Align → List ItemMeaning → List Part
-parts_over f align [] = []
-parts_over f align (i ∷ is) =
-    front_parts f.axis i.name f.from_parent
-    ++ (item_parts f.axis i
-    ++ (chain_parts f.axis i.name f.spacings is
-    ++ (back_parts f.axis (last_name i.name is) f.to_parent
+-- what the format and the alignment say on this way where these are the items, and nothing where there is
+-- none
+abbrev pub parts_over : FormatMeaning → Option Align → Course → List ItemMeaning → List Part
+parts_over f align c [] = []
+parts_over f align c (i ∷ is) =
+    front_parts c i.name f.from_parent
+    ++ (item_parts c i
+    ++ (chain_parts c i.name f.spacings is
+    ++ (back_parts c (last_name i.name is) f.to_parent
     ++ align_parts align i.name is)))
 
--- all that the format says, in the order of its text, and the rows of the alignment behind that
-unfoldable pub parts : FormatMeaning → Option Align → List Part
-parts f align = parts_over f align f.items
+-- all that the format says in this direction, in the order of its text, and the rows of the alignment behind
+-- that
+unfoldable pub parts : FormatMeaning → Option Align → Direction → List Part
+parts f align d = parts_over f align (course_of d f.axis) f.items

@@ -5,6 +5,7 @@ use Rattle.name_tables.specs.declared.stops.LimitWord.{LimitWord}
 use Rattle.name_tables.specs.declared.stops.LimitWord.TheVariants as limit
 use Rattle.vfl_text.specs.Formats.{FormatMeaning}
 use Rattle.script_text.specs.declared.words.Align.{Align}
+use Rattle.script_text.specs.declared.words.Direction.{Direction}
 use Rattle.script_text.specs.Meaning.{Linear}
 use Rattle.view_tree.specs.Views.{LiveView}
 use Rattle.compile_parts.specs.Meaning.{MetricList, terms_of}
@@ -63,19 +64,20 @@ AreRowsOf views metrics (l ∷ lines) number (r ∷ rows) = IsRowWithin views me
 
 -- a format with nothing wrong, and what it is compiled to
 pub record IsCompiledFormat (views : List LiveView) (metrics : MetricList) (f : FormatMeaning)
-    (align : Option Align) (first : ℕ) (c : CompiledLine) : Type 0 where
-  pub usable : IsUsableFormat views metrics f.axis align (parts f align)
-  pub numbers : IsPastNumbers first (row_count views (parts f align)) → ⊥
-  pub rows : AreRowsOf views metrics (lines_of views (parts f align)) first c.rows
-  pub views_named : c.views ≡ parts_views views (parts f align)
+    (align : Option Align) (d : Direction) (first : ℕ) (c : CompiledLine) : Type 0 where
+  pub usable : IsUsableFormat views metrics f.axis align (parts f align d)
+  pub numbers : IsPastNumbers first (row_count views (parts f align d)) → ⊥
+  pub rows : AreRowsOf views metrics (lines_of views (parts f align d)) first c.rows
+  pub views_named : c.views ≡ parts_views views (parts f align d)
 
 -- when a format may be refused
-abbrev pub MayStopFormat : List LiveView → MetricList → FormatMeaning → Option Align → ℕ → CompileStop
-    → Type 0
-MayStopFormat views metrics f align first (Unknown name) = unknown_parts views metrics (parts f align)
+abbrev pub MayStopFormat : List LiveView → MetricList → FormatMeaning → Option Align → Direction → ℕ
+    → CompileStop → Type 0
+MayStopFormat views metrics f align d first (Unknown name) = unknown_parts views metrics (parts f align d)
     ≡ Some name
-MayStopFormat views metrics f align first (Kind word) = (unknown_parts views metrics (parts f align) ≡ None)
-    × IsWrongFormat views metrics f.axis align (parts f align) word
-MayStopFormat views metrics f align first (Limit word) = IsUsableFormat views metrics f.axis align
-    (parts f align) × PassesInFormat views metrics (parts f align) first word
-MayStopFormat views metrics f align first OutOfMemory = ⊤
+MayStopFormat views metrics f align d first (Kind word) =
+    (unknown_parts views metrics (parts f align d) ≡ None)
+    × IsWrongFormat views metrics f.axis align (parts f align d) word
+MayStopFormat views metrics f align d first (Limit word) = IsUsableFormat views metrics f.axis align
+    (parts f align d) × PassesInFormat views metrics (parts f align d) first word
+MayStopFormat views metrics f align d first OutOfMemory = ⊤

@@ -8,3 +8,4 @@ pub mod FormatStops
 pub mod FormatViews
 pub mod FormatLaws
 pub mod Constants
+pub mod Instances

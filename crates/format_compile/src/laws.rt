@@ -2,6 +2,7 @@
 ghost use Rattle.format_compile.specs.FormatLaws.{CompiledFormatsHaveAllRows};
 ghost use Rattle.format_compile.specs.FormatLaws.{CompiledFormatsHaveNoRefusal};
 ghost use Rattle.format_compile.specs.FormatLaws.{FormatRefusalIsUnique};
+ghost use Rattle.format_compile.specs.Instances.{SomeCourses};
 
 /// A format that is compiled has as many rows as it asks for.
 pub fn compiled_formats_have_all_rows()
@@ -16,4 +17,10 @@ pub fn compiled_formats_have_no_refusal()
 /// A format has one cause of refusal at most, but for want of memory.
 pub fn format_refusal_is_unique()
     ensures { FormatRefusalIsUnique }
+{}
+
+/// What the ends of a horizontal format and two of its views measure in each direction; a vertical format
+/// asks for the same in both.
+pub fn some_courses()
+    ensures { SomeCourses }
 {}

@@ -2,12 +2,13 @@
 //!
 //! [`compile_format`] makes the rows, numbered one after the other in the order of the text, those of an
 //! alignment last; [`format_row_count`] says how many they are. Each is a row of a sum of terms, as
-//! `constraint_compile` makes it, so it follows the metrics as the row of a line does.
+//! `constraint_compile` makes it, so it follows the metrics as the row of a line does. The views of a
+//! horizontal format stand one behind the other from the left or from the right, as the direction says.
 //!
 //! ```
 //! // of the format `H:|-[a(>=gap)]`, from row 7 on
-//! format_row_count(alloc, &format, None)?    // 2
-//! let compiled = compile_format(alloc, &tree, &metrics, &format, None, 7)?;
+//! format_row_count(alloc, &format, None, Direction::Ltr)?    // 2
+//! let compiled = compile_format(alloc, &tree, &metrics, &format, None, 7, Direction::Ltr)?;
 //! compiled.rows_now(alloc, &metrics)?        // row 7: a is 20 right of its parent; row 8: a.width >= gap
 //! ```
 //!
@@ -36,5 +37,6 @@ mod spans;
 pub use format::{compile_format, format_row_count};
 pub use laws::{
     compiled_formats_have_all_rows, compiled_formats_have_no_refusal, format_refusal_is_unique,
+    some_courses,
 };
 pub use lists::constants_are_as_said;

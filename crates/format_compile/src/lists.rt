@@ -6,14 +6,14 @@ ghost use Rattle.format_compile.specs.FormatParts as parts;
 ghost use Rattle.format_compile.specs.FormatViews.{span_view, parts_view};
 ghost use Rattle.format_compile.specs.Constants.{ConstantsAreAsSaid};
 
-use crate::parts::{Part, Span};
-use crate::spans::{aligned_word, between, inside_far, inside_near, off, size};
+use crate::parts::{Course, Part, Span};
+use crate::spans::{aligned_word, between, course_of, inside_far, inside_near, off, size};
 use frac_core::OutOfMemory;
 use problem_core::Rel;
-use script_text::{Align, AttrWord};
+use script_text::{Align, AttrWord, Direction};
 use span_text::Object;
 use std::alloc::Global;
-use vfl_text::{Axis, Format, Item, Pred, Spacing};
+use vfl_text::{Format, Item, Pred, Spacing};
 
 /// The space between two views where none is given, in thousandths.
 pub const USUAL_BETWEEN: u16 = 8_000;
@@ -82,25 +82,29 @@ fn push_spacing<'a>(
 }
 
 // Appends the name of an item's view, and the rows of its size.
-fn push_item<'a>(out: &mut Vec<Part<'a>>, axis: Axis, item: &Item<'a>) -> Result<(), OutOfMemory>
+fn push_item<'a>(
+    out: &mut Vec<Part<'a>>,
+    course: Course,
+    item: &Item<'a>,
+) -> Result<(), OutOfMemory>
     ensures { OnOk result (parts_view out.new.items
-        ≡ parts_view out.old.items ++ parts.item_parts axis (item_meaning item.now)) }
+        ≡ parts_view out.old.items ++ parts.item_parts course (item_meaning item.now)) }
 {
     out.push(Part::View { name: item.name })?;
-    push_preds(out, size(axis, item.name), item.sizes())
+    push_preds(out, size(course, item.name), item.sizes())
 }
 
 // The views behind the one of this name. Answers the name of the last one.
 fn push_chain<'a>(
     out: &mut Vec<Part<'a>>,
-    axis: Axis,
+    course: Course,
     first: &'a str,
     spacings: &[Spacing<'a>],
     items: &[Item<'a>],
 ) -> Result<&'a str, OutOfMemory>
     requires { length spacings.now ≡ length items.now }
     ensures parts { OnOk result (parts_view out.new.items
-        ≡ parts_view out.old.items ++ parts.chain_parts axis first.now (spacing_meanings spacings.now)
+        ≡ parts_view out.old.items ++ parts.chain_parts course first.now (spacing_meanings spacings.now)
         (item_meanings items.now)) }
     ensures last { IfOk result (λ name. name.now ≡ parts.last_name first.now (item_meanings items.now)) }
 {
@@ -109,11 +113,11 @@ fn push_chain<'a>(
         let item = &items[i];
         push_spacing(
             out,
-            between(axis, before, item.name),
+            between(course, before, item.name),
             USUAL_BETWEEN,
             spacing,
         )?;
-        push_item(out, axis, item)?;
+        push_item(out, course, item)?;
         before = item.name;
     }
     Ok(before)
@@ -122,16 +126,16 @@ fn push_chain<'a>(
 // Appends the parent's bar in front of the view, and the connection to it, if there is one.
 fn push_front<'a>(
     out: &mut Vec<Part<'a>>,
-    axis: Axis,
+    course: Course,
     view: &'a str,
     spacing: &Option<Spacing<'a>>,
 ) -> Result<(), OutOfMemory>
     ensures { OnOk result (parts_view out.new.items
-        ≡ parts_view out.old.items ++ parts.front_parts axis view.now (end_meaning spacing.now)) }
+        ≡ parts_view out.old.items ++ parts.front_parts course view.now (end_meaning spacing.now)) }
 {
     if let Some(spacing) = spacing {
         out.push(Part::Bar { view })?;
-        push_spacing(out, inside_near(axis, view), USUAL_INSIDE, spacing)?;
+        push_spacing(out, inside_near(course, view), USUAL_INSIDE, spacing)?;
     }
     Ok(())
 }
@@ -139,16 +143,16 @@ fn push_front<'a>(
 // Appends the parent's bar behind the view, and the connection to it, if there is one.
 fn push_back<'a>(
     out: &mut Vec<Part<'a>>,
-    axis: Axis,
+    course: Course,
     view: &'a str,
     spacing: &Option<Spacing<'a>>,
 ) -> Result<(), OutOfMemory>
     ensures { OnOk result (parts_view out.new.items
-        ≡ parts_view out.old.items ++ parts.back_parts axis view.now (end_meaning spacing.now)) }
+        ≡ parts_view out.old.items ++ parts.back_parts course view.now (end_meaning spacing.now)) }
 {
     if let Some(spacing) = spacing {
         out.push(Part::Bar { view })?;
-        push_spacing(out, inside_far(axis, view), USUAL_INSIDE, spacing)?;
+        push_spacing(out, inside_far(course, view), USUAL_INSIDE, spacing)?;
     }
     Ok(())
 }
@@ -187,21 +191,23 @@ fn push_align<'a>(
     }
 }
 
-/// What the format says, in the order of its text, with the alignment behind it.
+/// What the format says in this direction, in the order of its text, with the alignment behind it.
 #[tactic(auto, unfolding(crate::specs::FormatParts::parts))]
 pub(crate) fn parts_of<'a>(
     alloc: Global,
     format: &Format<'a>,
     align: Option<Align>,
+    direction: Direction,
 ) -> Result<Vec<Part<'a>>, OutOfMemory>
-    ensures { IfOk result (λ out. parts_view out.items ≡ parts.parts (meaning format.now) align) }
+    ensures { IfOk result (λ out. parts_view out.items ≡ parts.parts (meaning format.now) align direction) }
 {
+    let course = course_of(direction, format.axis);
     let mut out = Vec::new(alloc);
     if let [first, others @ ..] = format.items() {
-        push_front(&mut out, format.axis, first.name, &format.from_parent)?;
-        push_item(&mut out, format.axis, first)?;
-        let last = push_chain(&mut out, format.axis, first.name, format.spacings(), others)?;
-        push_back(&mut out, format.axis, last, &format.to_parent)?;
+        push_front(&mut out, course, first.name, &format.from_parent)?;
+        push_item(&mut out, course, first)?;
+        let last = push_chain(&mut out, course, first.name, format.spacings(), others)?;
+        push_back(&mut out, course, last, &format.to_parent)?;
         push_align(&mut out, align, first.name, others)?;
     }
     Ok(out)

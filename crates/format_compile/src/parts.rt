@@ -34,3 +34,11 @@ pub(crate) enum Part<'a> {
     /// A row that is asked for.
     Asks { span: Span<'a>, pred: Pred<'a> },
 }
+
+/// The way in which a format's views follow each other.
+#[derive(Clone, Copy)]
+pub(crate) enum Course {
+    Rightwards,
+    Leftwards,
+    Downwards,
+}

@@ -3,34 +3,55 @@ ghost use Rattle.std.specs.Prelude.{◌≡◌};
 ghost use Rattle.format_compile.specs.FormatParts as parts;
 ghost use Rattle.format_compile.specs.FormatViews.{end_view, span_view};
 
-use crate::parts::{End, Owner, Span};
-use script_text::{Align, AttrWord};
+use crate::parts::{Course, End, Owner, Span};
+use script_text::{Align, AttrWord, Direction};
 use vfl_text::Axis;
 
-fn near(axis: Axis) -> AttrWord
-    ensures { result ≡ parts.near axis }
+/// The way of a format along this axis.
+pub(crate) fn course_of(direction: Direction, axis: Axis) -> Course
+    ensures { result ≡ parts.course_of direction axis }
 {
     match axis {
-        Axis::H => AttrWord::Left,
-        Axis::V => AttrWord::Top,
+        Axis::H => course_across(direction),
+        Axis::V => Course::Downwards,
     }
 }
 
-fn far(axis: Axis) -> AttrWord
-    ensures { result ≡ parts.far axis }
+fn course_across(direction: Direction) -> Course
+    ensures { result ≡ parts.course_across direction }
 {
-    match axis {
-        Axis::H => AttrWord::Right,
-        Axis::V => AttrWord::Bottom,
+    match direction {
+        Direction::Ltr => Course::Rightwards,
+        Direction::Rtl => Course::Leftwards,
     }
 }
 
-fn extent(axis: Axis) -> AttrWord
-    ensures { result ≡ parts.extent axis }
+fn near(course: Course) -> AttrWord
+    ensures { result ≡ parts.near course }
 {
-    match axis {
-        Axis::H => AttrWord::Width,
-        Axis::V => AttrWord::Height,
+    match course {
+        Course::Rightwards => AttrWord::Left,
+        Course::Leftwards => AttrWord::Right,
+        Course::Downwards => AttrWord::Top,
+    }
+}
+
+fn far(course: Course) -> AttrWord
+    ensures { result ≡ parts.far course }
+{
+    match course {
+        Course::Rightwards => AttrWord::Right,
+        Course::Leftwards => AttrWord::Left,
+        Course::Downwards => AttrWord::Bottom,
+    }
+}
+
+fn extent(course: Course) -> AttrWord
+    ensures { result ≡ parts.extent course }
+{
+    match course {
+        Course::Rightwards | Course::Leftwards => AttrWord::Width,
+        Course::Downwards => AttrWord::Height,
     }
 }
 
@@ -68,42 +89,51 @@ fn parents(view: &str, word: AttrWord) -> End<'_>
     }
 }
 
-/// From the parent to its view.
-pub(crate) fn inside_near(axis: Axis, view: &str) -> Span<'_>
-    ensures { span_view result ≡ parts.inside_near axis view.now }
+// How far it is from one end on to the other: the greater less the lesser.
+fn onwards<'a>(course: Course, from: End<'a>, to: End<'a>) -> Span<'a>
+    ensures { span_view result ≡ parts.onwards course (end_view from.entry) (end_view to.entry) }
 {
-    Span {
-        plus: own(view, near(axis)),
-        minus: Some(parents(view, near(axis))),
+    match course {
+        Course::Rightwards | Course::Downwards => Span {
+            plus: to,
+            minus: Some(from),
+        },
+        Course::Leftwards => Span {
+            plus: from,
+            minus: Some(to),
+        },
     }
+}
+
+/// From the parent to its view.
+pub(crate) fn inside_near(course: Course, view: &str) -> Span<'_>
+    ensures { span_view result ≡ parts.inside_near course view.now }
+{
+    let edge = near(course);
+    onwards(course, parents(view, edge), own(view, edge))
 }
 
 /// From one view to the next.
-pub(crate) fn between<'a>(axis: Axis, before: &'a str, view: &'a str) -> Span<'a>
-    ensures { span_view result ≡ parts.between axis before.now view.now }
+pub(crate) fn between<'a>(course: Course, before: &'a str, view: &'a str) -> Span<'a>
+    ensures { span_view result ≡ parts.between course before.now view.now }
 {
-    Span {
-        plus: own(view, near(axis)),
-        minus: Some(own(before, far(axis))),
-    }
+    onwards(course, own(before, far(course)), own(view, near(course)))
 }
 
 /// From the view to its parent.
-pub(crate) fn inside_far(axis: Axis, view: &str) -> Span<'_>
-    ensures { span_view result ≡ parts.inside_far axis view.now }
+pub(crate) fn inside_far(course: Course, view: &str) -> Span<'_>
+    ensures { span_view result ≡ parts.inside_far course view.now }
 {
-    Span {
-        plus: parents(view, far(axis)),
-        minus: Some(own(view, far(axis))),
-    }
+    let edge = far(course);
+    onwards(course, own(view, edge), parents(view, edge))
 }
 
 /// The view along the format.
-pub(crate) fn size(axis: Axis, view: &str) -> Span<'_>
-    ensures { span_view result ≡ parts.size axis view.now }
+pub(crate) fn size(course: Course, view: &str) -> Span<'_>
+    ensures { span_view result ≡ parts.size course view.now }
 {
     Span {
-        plus: own(view, extent(axis)),
+        plus: own(view, extent(course)),
         minus: None,
     }
 }

@@ -6,6 +6,7 @@ pub mod MovedRows
 pub mod MovingInstances
 pub mod NearMoves
 pub mod Nears
+pub mod Renewed
 pub mod Resized
 pub mod RowPlaces
 pub mod SameRow

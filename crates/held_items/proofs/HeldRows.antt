@@ -1,6 +1,7 @@
 -- The rows of what is held: their numbers, their ranks, and the views whose attributes they have.
 pub mod FormTerms
 pub mod FormatOwners
+pub mod IntrinsicRows
 pub mod ItemRows
 pub mod NextLines
 pub mod NextRows

@@ -1,7 +1,8 @@
+pub mod Constants
+pub mod FirstItems
+pub mod HeldRows
 pub mod Lists
 pub mod Marks
-pub mod Views
-pub mod HeldRows
-pub mod Constants
-pub mod Suggestions
 pub mod Removals
+pub mod Suggestions
+pub mod Views

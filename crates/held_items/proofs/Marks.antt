@@ -3,7 +3,6 @@ use Rattle.std.proofs.Common.{◌≡◌, ◌∙◌, ◌≤◌, List, [], ◌∷�
 use Rattle.version_list.specs.Versions.{Versions}
 use Rattle.version_list.specs.declared.TheConstants.{VERSION_LIMIT}
 use Rattle.held_items.specs.declared.item.Item as declared
-use Rattle.held_items.specs.Items.{Item}
 use Rattle.held_items.specs.declared.limits.TheConstants.{EARLIER}
 use Rattle.std.proofs.lemmas.List.{take_all}
 

@@ -1,7 +1,9 @@
--- The limits of what a scene holds, written out.
+-- The limits of what a scene holds, and the usual ranks of a view's size, written out.
 use Rattle.std.specs.Prelude.{◌≡◌}
 use Rattle.held_items.specs.declared.limits.TheConstants.{EARLIER, MOST_ROWS}
+use Rattle.held_items.specs.declared.item.intrinsic.TheConstants.{USUAL_HUG, USUAL_RESIST}
 
--- A scene holds 2,000 rows of lines at most, and 32 earlier scenes are kept.
+-- A scene holds 2,000 rows of lines at most, and 32 earlier scenes are kept. A view hugs at 250,
+-- and resists at 750.
 abbrev pub ConstantsAreAsSaid : Type 0
-ConstantsAreAsSaid = (MOST_ROWS ≡ 2000) × (EARLIER ≡ 32)
+ConstantsAreAsSaid = (MOST_ROWS ≡ 2000) × (EARLIER ≡ 32) × (USUAL_HUG ≡ 250) × (USUAL_RESIST ≡ 750)

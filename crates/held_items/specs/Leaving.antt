@@ -1,4 +1,4 @@
--- What goes of what is held, with a group, a suggestion, or views: the items, and the numbers of rows and attributes.
+-- What goes of what is held, with a group, a suggestion, or views: items, and numbers of rows and attributes.
 use Rattle.std.specs.Prelude.{ℕ, ◌+◌, Bool, false, cond, not, List, [], ◌∷◌, ◌++◌, filter, map, nat_eq}
 use Rattle.std.specs.List.{list_any}
 use Rattle.std.specs.Str.{bytes_eq}
@@ -6,7 +6,7 @@ use Rattle.problem_core.specs.declared.parts.Stay.{Stay}
 use Rattle.view_tree.specs.Drops.{is_among}
 use Rattle.held_items.specs.declared.row_numbers.TheConstants.{HEIGHT_ROW, LEFT_ROW, TOP_ROW, WIDTH_ROW}
 use Rattle.held_items.specs.Attributes.{view_attributes}
-use Rattle.held_items.specs.Items.{Item, OfWindow, OfView, Sized, OfLine, Suggested}
+use Rattle.held_items.specs.Items.{Item, OfWindow, OfView, Sized, OfLine, Suggested, Intrinsic}
 
 -- ---- items
 
@@ -17,14 +17,17 @@ is_in_group group (OfView first_row id) = false
 is_in_group group (Sized first_row width height) = false
 is_in_group group (OfLine name line) = bytes_eq group name
 is_in_group group (Suggested s) = false
+is_in_group group (Intrinsic s) = false
 
--- the item is one of these views, a line whose text names one of them, or a suggestion for one of them
+-- the item is one of these views, a line whose text names one of them, or a suggestion or a size of one of
+-- them
 abbrev pub goes_with : List ℕ → Item → Bool
 goes_with gone OfWindow = false
 goes_with gone (OfView first_row id) = is_among gone id
 goes_with gone (Sized first_row width height) = false
 goes_with gone (OfLine name line) = list_any (λ id. list_any (λ v. nat_eq v id) line.views) gone
 goes_with gone (Suggested s) = is_among gone s.view
+goes_with gone (Intrinsic s) = is_among gone s.view
 
 -- what stays of what is held
 abbrev pub staying : (Item → Bool) → List Item → List Item
@@ -39,6 +42,8 @@ item_numbers (OfView first_row id) = first_row ∷ (first_row + 1) ∷ []
 item_numbers (Sized first_row width height) = first_row ∷ (first_row + 1) ∷ []
 item_numbers (OfLine name line) = map (λ f. f.id) line.rows
 item_numbers (Suggested s) = s.row ∷ []
+item_numbers (Intrinsic s) =
+    s.first_row ∷ (s.first_row + 1) ∷ (s.first_row + 2) ∷ (s.first_row + 3) ∷ []
 
 -- the numbers of the rows of what goes, in order
 abbrev pub numbers_of : (Item → Bool) → List Item → List ℕ

@@ -1,5 +1,6 @@
 -- Other constants of rows: how far they move, and what another value of a metric changes.
-use Rattle.std.specs.Prelude.{ℕ, Some, ◌+◌, length, slice_index_or, ◌≡◌, ◌≢◌, ◌<◌, ◌⊎◌, List, [], ◌∷◌, ◌++◌, All, Any}
+use Rattle.std.specs.Prelude.{ℕ, Some, ◌+◌, length, slice_index_or, ◌≡◌, ◌≢◌, ◌<◌, ◌⊎◌, List, [], ◌∷◌, ◌++◌}
+use Rattle.std.specs.Prelude.{All, Any}
 use Rattle.frac_core.specs.Fraction.{Fraction}
 use Rattle.problem_core.specs.Layout.{Row}
 use Rattle.constraint_compile.specs.Compiled.{IsFittingSum}
@@ -7,7 +8,8 @@ use Rattle.compile_parts.specs.Fractions.{plus, negated}
 use Rattle.constraint_compile.specs.Compiled.{RowForm}
 use Rattle.constraint_compile.specs.declared.naming.RowConstant.{RowConstant}
 use Rattle.layout_solver.specs.declared.engine.Change.{Change}
-use Rattle.held_items.specs.Items.{Item, OfWindow, OfView, Sized, OfLine, Suggested, Size, size_of}
+use Rattle.held_items.specs.Items.{Item, OfWindow, OfView, Sized, OfLine, Suggested, Intrinsic, Size}
+use Rattle.held_items.specs.Items.{size_of}
 
 -- ---- how far constants move
 
@@ -45,6 +47,7 @@ forms_in (OfView first_row id) = []
 forms_in (Sized first_row width height) = []
 forms_in (OfLine group line) = line.rows
 forms_in (Suggested s) = []
+forms_in (Intrinsic s) = []
 
 -- those of all these items, in order
 abbrev pub forms_of : List Item → List RowForm

@@ -1,23 +1,22 @@
 // What is held, apart from its rows.
 pub(crate) mod coming;
+pub(crate) mod finding;
+pub(crate) mod intrinsic;
 pub(crate) mod leaving;
 pub(crate) mod moving;
 pub(crate) mod placing;
+pub(crate) mod renewing;
 pub(crate) mod rows;
 pub(crate) mod suggesting;
 
-ghost use Rattle.std.specs.Prelude.{◌≡◌, ◌∷◌, ◌≤◌, true, false, length, Some, None};
-ghost use Rattle.std.specs.Prelude.{IfSome, IfNone, OnSome, OnOk, OnErr};
-ghost use Rattle.held_items.specs.Items.{is_line, is_size, line_count, has_size, own_size, size_of};
-ghost use Rattle.held_items.specs.Items.{sized, resized};
+ghost use Rattle.std.specs.Prelude.{◌≡◌, true, false, Some, None, IfSome, IfNone, OnSome};
+ghost use Rattle.held_items.specs.Items.{is_line, is_size, line_count, own_size, sized};
 ghost use Rattle.held_items.specs.Kept.{item_of, items_of, size_in};
-ghost use Rattle.held_items.specs.declared.limits.TheConstants.{EARLIER};
 
-use crate::item::placing::put_item;
+use crate::item::intrinsic::IntrinsicSize;
 use constraint_compile::{Compiled, Suggestion};
-use frac_core::{Frac, OutOfMemory};
+use frac_core::Frac;
 use name_tables::OwnedName;
-use version_list::VersionList;
 
 /// What a session holds rows for. A view is named by its number, the window's being 0.
 #[derive(Drop)]
@@ -42,6 +41,8 @@ pub enum Item {
     },
     /// That an attribute of a view has a value.
     Suggested(Suggestion),
+    /// The size that a view would like to have.
+    Intrinsic(IntrinsicSize),
 }
 
 /// The constants of the window's rows.
@@ -64,7 +65,8 @@ fn is_line(item: &Item) -> bool
     matches!(item, Item::OfLine { .. })
 }
 
-fn is_size(item: &Item) -> bool
+/// Whether the item is the window's size.
+pub(crate) fn is_size(item: &Item) -> bool
     ensures { result ≡ is_size (item_of item.now) }
 {
     matches!(item, Item::Sized { .. })
@@ -83,8 +85,8 @@ pub fn line_count(items: &[Item]) -> usize
     count
 }
 
-// The window's size, where the item is it.
-fn own_size(item: &Item) -> Option<HeldSize>
+/// The window's size, where the item is it.
+pub(crate) fn own_size(item: &Item) -> Option<HeldSize>
     ensures some { IfSome result (λ s. own_size (item_of item.now) ≡ Some (size_in s)) }
     ensures none { IfNone result (own_size (item_of item.now) ≡ None) }
 {
@@ -100,37 +102,13 @@ fn own_size(item: &Item) -> Option<HeldSize>
                 height: *height,
             },
         }),
-        Item::OfWindow | Item::OfView { .. } | Item::OfLine { .. } | Item::Suggested(_) => None,
+        Item::OfWindow | Item::OfView { .. } | Item::OfLine { .. } => None,
+        Item::Suggested(_) | Item::Intrinsic(_) => None,
     }
 }
 
-/// The window's size, where one is held.
-pub fn size_of(items: &[Item]) -> Option<HeldSize>
-    ensures some { IfSome result (λ s. size_of (items_of items.now) ≡ Some (size_in s)) }
-    ensures none { IfNone result (size_of (items_of items.now) ≡ None) }
-{
-    for item in items {
-        if is_size(item) {
-            return own_size(item);
-        }
-    }
-    None
-}
-
-/// Whether the window's size is held.
-pub fn has_size(items: &[Item]) -> bool
-    ensures { result ≡ has_size (items_of items.now) }
-{
-    for item in items {
-        if is_size(item) {
-            return true;
-        }
-    }
-    false
-}
-
-// The item with these constants, if it is the window's size.
-fn sized(item: &Item, size: &WindowSize) -> Option<Item>
+/// The item with these constants, if it is the window's size.
+pub(crate) fn sized(item: &Item, size: &WindowSize) -> Option<Item>
     ensures some { IfSome result
         (λ new. item_of new ≡ sized size.now.width size.now.height (item_of item.now)) }
     ensures own { OnSome result (is_size (item_of item.now) ≡ true) }
@@ -142,24 +120,7 @@ fn sized(item: &Item, size: &WindowSize) -> Option<Item>
             width: size.width,
             height: size.height,
         }),
-        Item::OfWindow | Item::OfView { .. } | Item::OfLine { .. } | Item::Suggested(_) => None,
+        Item::OfWindow | Item::OfView { .. } | Item::OfLine { .. } => None,
+        Item::Suggested(_) | Item::Intrinsic(_) => None,
     }
-}
-
-/// Gives the window these constants in place of those that it has. The items of before are the newest earlier
-/// version. After want of memory all is as before.
-pub fn resize_first(items: &mut VersionList<Item>, size: &WindowSize) -> Result<(), OutOfMemory>
-    requires { length items.old.before ≤ EARLIER }
-    ensures items { OnOk result
-        (items_of items.new.items ≡ resized size.now.width size.now.height (items_of items.old.items)) }
-    ensures before { OnOk result (items.new.before ≡ items.old.items ∷ items.old.before) }
-    ensures same { OnErr result (items.new ≡ items.old) }
-{
-    items.mark();
-    for place in 0..items.len() {
-        if let Some(new) = sized(items.get(place), size) {
-            return put_item(items, place, new);
-        }
-    }
-    Ok(())
 }

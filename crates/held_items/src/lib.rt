@@ -1,8 +1,8 @@
 //! What a session holds, and the rows that this stands for.
 //!
-//! An [`Item`] is the window, a view, the window's size, a line of a group, or a suggestion. The items stand in
-//! order of acceptance in a list with earlier versions ([`VersionList`](version_list::VersionList)); the
-//! numbers of their rows rise in that order.
+//! An [`Item`] is the window, a view, the window's size, a line of a group, a suggestion, or the size that a
+//! view would like. The items stand in order of acceptance in a list with earlier versions
+//! ([`VersionList`](version_list::VersionList)); the numbers of their rows rise in that order.
 //!
 //! ```
 //! push_views(&mut items, 5, 1, 1)?;             // the first view, ViewId(1), whose rows are 5 and 6
@@ -14,15 +14,16 @@
 //! ```
 //!
 //! A contract sees an item without its code (`item_of`): what it keeps (`IsItem`), its rows at given metrics
-//! (`AreItemRows`, `AreRows`), and its numbers (`item_numbers`). No function here sees a scene, an engine or a
-//! reply: those who keep a scene have the items change with the engine's rows.
+//! (`AreItemRows`, `AreRows`), and its numbers (`item_numbers`). No function here sees a scene, an engine or
+//! a reply: those who keep a scene have the items change with the engine's rows.
 //!
 //! What always holds: after want of memory the items are as before; after a change those of before are the
 //! newest earlier version; and what changes the constants of rows says so of each row whose constant changes.
 //!
 //! In reading order: `limits`, `row_numbers`, `changes` (how far a constant moves); `item` is what is held,
-//! with `rows` (its rows), and with what a change does to it: `placing` (one item more, another one, or one
-//! less), `coming` (views), `leaving`, `moving` (metrics) and `suggesting`.
+//! with `rows` (its rows), `suggesting` and `intrinsic` (suggestions, and sizes of views), `finding` (what
+//! there is one of at most), and with what a change does to it: `placing` (one item more, another one, or one
+//! less), `coming` (views), `leaving`, `moving` (metrics) and `renewing` (other constants).
 #![tactic(auto)]
 
 mod changes;
@@ -32,11 +33,17 @@ mod row_numbers;
 
 pub use changes::{fits_after, is_near_size, size_changes};
 pub use item::coming::{NewViews, attributes_from, push_views, view_attributes};
+pub use item::finding::{has_size, intrinsic_of, size_of, suggestion_of};
+pub use item::intrinsic::{
+    IntrinsicSize, NewIntrinsic, USUAL_HUG, USUAL_RESIST, intrinsic_changes, intrinsic_name,
+    intrinsic_rows,
+};
 pub use item::leaving::{Leaver, attributes_in, has_group, leaving_numbers, take_leaving_out};
 pub use item::moving::{constants_naming, moves};
 pub use item::placing::push_item;
+pub use item::renewing::{Renewal, renew};
 pub use item::rows::{size_rows, small_line_rows, structural_rows, suggestion_rows, view_rows};
-pub use item::suggesting::{NewSuggestion, suggest_again, suggestion_name, suggestion_of};
-pub use item::{HeldSize, Item, WindowSize, has_size, line_count, resize_first, size_of};
+pub use item::suggesting::{NewSuggestion, suggestion_name};
+pub use item::{HeldSize, Item, WindowSize, line_count};
 pub use limits::{EARLIER, MOST_ROWS, constants_are_as_said};
-pub use row_numbers::{FIRST_FREE_ROW, SIZE_ROWS, VIEW_ROWS};
+pub use row_numbers::{FIRST_FREE_ROW, INTRINSIC_ROWS, SIZE_ROWS, VIEW_ROWS};

@@ -6,6 +6,9 @@ pub const VIEW_ROWS: u32 = 2;
 /// How many rows the window's size takes.
 pub const SIZE_ROWS: u32 = 2;
 
+/// How many rows the size takes that a view would like.
+pub const INTRINSIC_ROWS: u32 = 4;
+
 /// The number of the row by which the window's left is 0.
 pub const LEFT_ROW: u32 = 1;
 

@@ -1,3 +1,4 @@
+pub mod Versions
 pub mod BestRuns
 pub mod Told
 pub mod Made

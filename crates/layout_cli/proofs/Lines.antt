@@ -1,28 +1,80 @@
--- The answers to a script's lines are a run of the session.
-use Rattle.std.proofs.Common.{◌≡◌, ◌∙◌, ◌++◌, ◌&&◌, ℕ, Bool, true, List, [], ◌∷◌, refl, ap}
+-- The answers to a script's lines are a run of the script.
+use Rattle.std.proofs.Common.{◌≡◌, ◌∙◌, ◌++◌, ◌&&◌, ℕ, Bool, true, false, List, [], ◌∷◌, refl, sym, ap, ap₂, subst, inl, inr}
 use Rattle.std.specs.Str.Lines.{lines}
-use Rattle.session_undo.specs.State.{IsFirst, State}
+use Rattle.script_text.specs.declared.words.Version.TheVariants as version
+use Rattle.session_undo.specs.State.{IsFirstOf, State}
 use Rattle.line_by_line.specs.Answers.{AreAnswered, Machine, texts_of}
-use Rattle.layout_cli.specs.Machine.{Answers, IsRunOf, NewRun, Run}
+use Rattle.layout_cli.specs.Machine.{Begins, GoesOn, IsRunOf, NewRun, Run, RunOf, Talking, Talks, TalksAfter}
 
--- what answers lines, by the session that it has
-abbrev pub by_session : {A : Type 0} → (A → State) → Machine A
-by_session at old line text good new = Answers (at old) line text good (at new)
+-- what answers lines, by the session that it has and whether a line with a reply came
+abbrev pub by_talking : {A : Type 0} → (A → Talking) → Machine A
+by_talking at old line text good new = Talks (at old) line text good (at new)
 
-run_of : {A : Type 0} (at : A → State) (lines : List (List ℕ)) (old new : A) (text : List ℕ) (good : Bool) → AreAnswered (by_session at) old lines text good new → Run (at old) lines text good (at new)
-run_of at [] old new text good (none, all, same) = (none, all, ap at same)
-run_of at (line ∷ more) old new text good (told, is_good, rest, rest_good, mid, (reply, step, told_is, good_is), text_is, all, run) =
-    (reply, at mid, rest, rest_good, step, text_is ∙ ap (λ (t : List ℕ). t ++ rest) told_is, all ∙ ap (λ (b : Bool). b && rest_good) good_is, run_of at more mid new rest rest_good run)
+-- no line came, and the session is the first
+abbrev pub unbegun : State → Talking
+unbegun first = record { state = first; begun = false }
 
--- a run from a new session, of some lines or of none
-new-run : (lines : List (List ℕ)) (text : List ℕ) (good : Bool) (first last : State) → IsFirst first → Run first lines text good last → NewRun lines text good
-new-run [] text good first last new run = (run.0, run.1)
-new-run (line ∷ more) text good first last new run = (first, last, new, run)
+module _ {A : Type 0} (at : A → Talking) where
+  -- behind a line with a reply each line gets a step
+  goes_on : (old mid : A) (line told : List ℕ) (good : Bool) → (at old).begun ≡ true → Talks (at old) line told good (at mid) → GoesOn (at old).state line told good (at mid)
+  goes_on old mid line told good begun talks = subst (λ (b : Bool). TalksAfter b (at old).state line told good (at mid)) begun talks
 
--- the texts of a script's lines are its runs, from a new session on
-pub is_run : {A : Type 0} (at : A → State) (first : A) → IsFirst (at first) → (script text : List ℕ) (good : Bool) → texts_of (by_session at) first script text good → IsRunOf script text good
-is_run at first new script text good (last, answered) =
-    new-run (lines script) text good (at first) (at last) new (run_of at (lines script) first last text good answered)
+  begun_run : (lines : List (List ℕ)) (old last : A) (text : List ℕ) (good : Bool) → (at old).begun ≡ true → AreAnswered (by_talking at) old lines text good last → Run (at old).state lines text good (at last).state
+  begun_run [] old last text good begun (none, all, same) = (none, all, ap (λ (a : A). (at a).state) same)
+  begun_run (line ∷ more) old last text good begun (told, is_good, rest, rest_good, mid, talks, text_is, all, run) =
+      let step = goes_on old mid line told is_good begun talks in (
+        step.0.0,
+        (at mid).state,
+        rest,
+        rest_good,
+        step.0.1,
+        text_is ∙ ap (λ (t : List ℕ). t ++ rest) step.0.2,
+        all ∙ ap (λ (b : Bool). b && rest_good) step.0.3,
+        begun_run more mid last rest rest_good step.1 run,
+      )
+
+  -- to the first session a line begins
+  begins : (first : State) (old mid : A) (line told : List ℕ) (good : Bool) → at old ≡ unbegun first → Talks (at old) line told good (at mid) → Begins first line told good (at mid)
+  begins first old mid line told good is talks = subst (λ (t : Talking). Talks t line told good (at mid)) is talks
+
+  talks_run : (first : State) → IsFirstOf version.One first → (lines : List (List ℕ)) (old last : A) (text : List ℕ) (good : Bool) → at old ≡ unbegun first → AreAnswered (by_talking at) old lines text good last → RunOf lines text good
+  talks_run first new [] old last text good is (none, all, same) = (none, all)
+  talks_run first new (line ∷ more) old last text good is (told, is_good, rest, rest_good, mid, talks, text_is, all, run) =
+      begun_by (λ same. talks_run first new more mid last rest rest_good same run) (begins first old mid line told is_good is talks)
+    where
+      -- the reply to the line is good, so what is good of all is what is good of the rest
+      rest_decides : is_good ≡ true → good ≡ rest_good
+      rest_decides so = all ∙ ap (λ (b : Bool). b && rest_good) so
+
+      begun_by : (at mid ≡ unbegun first → RunOf more rest rest_good) → Begins first line told is_good (at mid) → RunOf (line ∷ more) text good
+      begun_by after (inl (silent, no_text, so, same)) =
+          let whole : text ≡ rest = text_is ∙ ap (λ (t : List ℕ). t ++ rest) no_text in
+          inl (silent, subst (λ (t : List ℕ). RunOf more t good) (sym whole) (subst (λ (b : Bool). RunOf more rest b) (sym (rest_decides so)) (after same)))
+      begun_by after (inr (inl (opening, told_is, so, first_two, begun))) =
+          inr (inl (
+            opening,
+            (
+              rest,
+              text_is ∙ ap (λ (t : List ℕ). t ++ rest) told_is,
+              subst (λ (b : Bool). NewRun version.Two more rest b) (sym (rest_decides so)) ((at mid).state, (at last).state, first_two, begun_run more mid last rest rest_good begun run),
+            ),
+          ))
+      begun_by after (inr (inr (not_silent, not_opening, (reply, step, told_is, good_is), begun))) =
+          inr (inr (
+            not_silent,
+            not_opening,
+            (
+              first,
+              (at last).state,
+              new,
+              (reply, (at mid).state, rest, rest_good, step, text_is ∙ ap (λ (t : List ℕ). t ++ rest) told_is, all ∙ ap (λ (b : Bool). b && rest_good) good_is, begun_run more mid last rest rest_good begun run),
+            ),
+          ))
+
+-- the texts of a script's lines are its runs, from where no line came
+pub is_run : {A : Type 0} (at : A → Talking) (first : A) → IsFirstOf version.One (at first).state → (at first).begun ≡ false → (script text : List ℕ) (good : Bool) → texts_of (by_talking at) first script text good → IsRunOf script text good
+is_run at first new none script text good (last, answered) =
+    talks_run at (at first).state new (lines script) first last text good (ap (λ (b : Bool). (let t : Talking = record { state = (at first).state; begun = b } in t)) none) answered
 
 -- no line, no text
 pub no_run : IsRunOf [] [] true

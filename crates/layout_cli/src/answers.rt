@@ -6,7 +6,6 @@ ghost use Rattle.frac_core.specs.declared.memory.Stop.TheVariants.{OutOfMemory a
 ghost use Rattle.line_by_line.specs.Answers.{HasStopCause, sink_failed};
 ghost use Rattle.layout_cli.specs.Machine.{Step};
 ghost use Rattle.reply_texts.specs.Replies.{text_of};
-ghost use Rattle.layout_cli.specs.Told.{IsReplied, IsRepliedInPart};
 ghost use Rattle.reply_texts.specs.declared.reply.TheConstants.{OK_LENGTH};
 ghost use Rattle.session_undo.specs.Replies.{accepted, IsChange, MayRefuse, Tells};
 ghost use Rattle.session_undo.specs.Replies as reply;
@@ -16,12 +15,12 @@ use frac_core::Stop;
 use line_by_line::AnswerStop;
 use name_tables::LimitWord;
 use reply_texts::{OK_LENGTH, print_frames, reply_text};
-use script_text::read_line;
+use script_text::read_line_in;
 use session_undo::{Refusal, Reply, Session};
 use span_text::SyntaxAt;
 use std::alloc::Global;
 
-/// Does what a line says.
+/// Does what a line of the session's version says.
 pub(crate) fn step(alloc: Global, session: &mut Session, line: &[u8]) -> Result<Reply, Refusal>
     ensures accepted { IfOk result (λ reply. Step session.old line.now (accepted reply) session.new) }
     ensures refused { IfErr result (MayRefuse (λ reply. Step session.old line.now reply session.old)) }
@@ -30,7 +29,7 @@ pub(crate) fn step(alloc: Global, session: &mut Session, line: &[u8]) -> Result<
     if line.len() > LINE_LIMIT {
         return Err(Refusal::Limit(LimitWord::Line));
     }
-    match read_line(alloc, line) {
+    match read_line_in(alloc, line, session.version()) {
         Ok(command) => session.apply(command),
         Err(Stop::Refused(SyntaxAt(at))) => Err(Refusal::Syntax(at)),
         Err(Stop::OutOfMemory) => Err(Refusal::OutOfMemory),
@@ -61,28 +60,6 @@ pub(crate) fn put_reply<K: Sink>(
     reply_text(session, reply, text)?;
     put_all(sink, text)?;
     Ok(())
-}
-
-/// Does what a line says, puts the reply, and says whether it is no refusal. The room for `ok` is there
-/// before a change is made.
-pub(crate) fn answer<K: Sink>(
-    session: &mut Session,
-    line: &[u8],
-    text: &mut Vec<u8>,
-    sink: &mut K,
-) -> Result<bool, AnswerStop>
-    ensures told { IfOk result
-        (IsReplied session.old line.now session.new (K.held sink.old) (K.held sink.new)) }
-    ensures front { IsErrOf result sink_failed
-        → IsRepliedInPart session.old line.now (K.held sink.old) (K.held sink.new) }
-    ensures cause { HasStopCause K.faults sink.old sink.new result }
-    ensures same { IsErrOf result NoMemory → session.new ≡ session.old }
-{
-    text.clear();
-    text.reserve(OK_LENGTH)?;
-    let reply = step(*text.allocator(), session, line);
-    put_reply(session, &reply, text, sink)?;
-    Ok(reply.is_ok())
 }
 
 /// Puts the refusal of a line that is too long.

@@ -19,8 +19,9 @@
 //! What always holds: what a run writes for its input is the output of the mode that its words name
 //! (`IsOutputOf` in `specs/`), whole or in front.
 //!
-//! In reading order: `program` ([`run`]). For `run`: `talk` (a session that answers lines) and `answers` (one
-//! line, whose reply `reply_texts` writes). For `make`: `making`, with its `output`. `mode` (how much is
+//! In reading order: `program` ([`run`]). For `run`: `talk` (what answers a script's lines), `responder`
+//! ([`Responder`]: a session, and the version that the first line may say) and `answers` (one line, whose
+//! reply `reply_texts` writes). For `make`: `making`, with its `output`. `mode` (how much is
 //! read), `laws`. The mode `check` is `claim_check`'s.
 #![tactic(auto)]
 
@@ -30,6 +31,7 @@ mod making;
 mod mode;
 mod output;
 mod program;
+mod responder;
 mod talk;
 
 pub use claim_check::CHECK_LIMIT;
@@ -39,3 +41,4 @@ pub use laws::{
 pub use line_by_line::INPUT_LIMIT;
 pub use mode::constants_are_as_said;
 pub use program::{Status, run};
+pub use responder::Responder;

@@ -1,52 +1,54 @@
-// A session that answers the lines of a script as a feed gives them.
-ghost use Rattle.std.specs.Prelude.{IfOk};
+// A responder that answers the lines of a script as a feed gives them.
+ghost use Rattle.std.specs.Prelude.{◌≡◌, false, IfOk};
 ghost use Rattle.edge_io.specs.Outside.{LeadsOutside, counts};
 ghost use Rattle.line_by_line.specs.Ends.{IsScriptCounted, IsScriptEnd};
-ghost use Rattle.layout_cli.specs.Machine.{Answers, IsRunOf};
+ghost use Rattle.layout_cli.specs.Machine.{IsRunOf, Talks};
 ghost use Rattle.session_undo.specs.State.{IsFirst};
 
-use crate::answers::{answer, refuse_long};
+use crate::answers::refuse_long;
+use crate::responder::Responder;
 use edge_io::{Piece, Sink, Source};
 use frac_core::OutOfMemory;
 use line_by_line::{AnswerStop, Answerer, ScriptStop, answer_script};
-use session_undo::Session;
 use std::alloc::Global;
 
-/// A session, and the room for a reply.
+/// A responder, and the room for a reply.
 #[derive(Drop)]
 pub(crate) struct Talk {
-    session: Session,
+    responder: Responder,
     text: Vec<u8>,
 }
 
 impl Talk {
     /// A new session, with no line answered.
     pub(crate) fn new(alloc: Global) -> Result<Self, OutOfMemory>
-        ensures { IfOk result (λ talk. IsFirst talk.session) }
+        ensures first { IfOk result (λ talk. IsFirst talk.responder.state) }
+        ensures unbegun { IfOk result (λ talk. talk.responder.begun ≡ false) }
     {
         Ok(Talk {
-            session: Session::new(alloc)?,
+            responder: Responder::new(alloc)?,
             text: Vec::new(alloc),
         })
     }
 }
 
 impl Answerer for Talk {
-    ghost answers = { λ old line text good new. Answers old.session line text good new.session };
+    ghost answers = { λ old line text good new. Talks old.responder line text good new.responder };
 
     fn answer<K: Sink>(&mut self, piece: Piece<'_>, sink: &mut K) -> Result<bool, AnswerStop> {
         match piece {
-            Piece::Line(line) => answer(&mut self.session, line, &mut self.text, sink),
+            Piece::Line(line) => self.responder.put_answer(line, &mut self.text, sink),
             Piece::Long => {
-                refuse_long(&self.session, &mut self.text, sink)?;
+                refuse_long(self.responder.session(), &mut self.text, sink)?;
+                self.responder.long();
                 Ok(false)
             }
         }
     }
 }
 
-/// Answers each line of a script before the next one is read, from the first session on, and says whether no
-/// reply is a refusal.
+/// Answers each line of a script before the next one is read, from the first session of the script's version
+/// on, and says whether no reply is a refusal.
 pub(crate) fn talk_over<S: Source, K: Sink>(
     alloc: Global,
     source: &mut S,

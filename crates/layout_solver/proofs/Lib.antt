@@ -6,5 +6,6 @@ pub mod Changes
 pub mod Attributes
 pub mod Shifts
 pub mod Removals
+pub mod Standing
 pub mod Shown
 pub mod BestValues

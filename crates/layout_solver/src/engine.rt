@@ -184,6 +184,27 @@ impl Engine {
         }
     }
 
+    /// Moves the stays to the present values. These and the corner are as before.
+    pub fn stand(&mut self) -> Result<(), OutOfMemory>
+        requires room { length self.old.earlier < VERSION_LIMIT }
+        ensures problem { IfOk result (λ _. self.new.problem ≡ stood self.old) }
+        ensures values { IfOk result (λ _. self.new.values ≡ self.old.values) }
+        ensures corner { IfOk result (λ _. self.new.corner ≡ self.old.corner) }
+        ensures earlier { IfOk result (λ _. self.new.earlier ≡ solution_of self.old ∷ self.old.earlier) }
+        ensures same { OnErr result (self.new ≡ self.old) }
+    {
+        self.corner.mark();
+        let result = self.corner.stand();
+        self.corner.show_corner(); // for the proof: what a corner keeps
+        match result {
+            Ok(()) => Ok(()),
+            Err(OutOfMemory) => {
+                self.corner.back();
+                Err(OutOfMemory)
+            }
+        }
+    }
+
     /// The value that an attribute would have if rows joined. The engine is as before.
     ///
     /// The stops are those of `add`.

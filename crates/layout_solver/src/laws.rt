@@ -14,7 +14,8 @@ pub fn some_removals_stop()
     ensures { SomeRemovalsStop }
 {}
 
-/// Whatever leaves, a removal's stop names a whole quantity: no first terms or rows, and no changed constants.
+/// Whatever leaves, a removal's stop names a whole quantity: no first terms or rows, and no changed
+/// constants.
 pub fn removals_stop_plainly()
     ensures { RemovalsStopPlainly }
 {}

@@ -48,8 +48,8 @@ IsScriptEnd IsTextOf old new (Err OutOfMemory) =
 abbrev pub IsScriptCounted : Result Bool ScriptStop → Counts → Counts → Type 0
 IsScriptCounted result = IsCounted (INPUT_LIMIT + 1) (IsErrOf result ReadFault) (IsErrOf result WriteFault)
 
--- The script may be asked for more wherever all whole lines of what was taken are answered: there what it wants
--- of a sink before it gives more holds.
+-- The script may be asked for more wherever all whole lines of what was taken are answered: there what it
+-- wants of a sink before it gives more holds.
 abbrev pub AsksAnswered : {A : Type 0} → Texts → (A → Option (List ℕ)) → (A → Option (List ℕ) → Type 0)
     → A → (before : Option (List ℕ)) → Type 0
 AsksAnswered {A = A} IsTextOf left may_ask first before = (now : A) (held : Option (List ℕ)) (taken : List ℕ)

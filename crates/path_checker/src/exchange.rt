@@ -369,7 +369,8 @@ pub fn solved_from(alloc: Global, leaving: &Sum, step: Step) -> Result<Pivot, Su
     requires enter { step.enter.at < length leaving.now.by.items }
     requires sized { IsSized (length leaving.now.by.items) leaving.now }
     ensures pivot { IfOk result (IsSolvedFrom leaving.now step) }
-    ensures unfit { IfErr result (λ stop. IsRefused stop → number_at leaving.now.by.items step.enter.at ≡ pos 0) }
+    ensures unfit { IfErr result (λ stop. IsRefused stop
+        → number_at leaving.now.by.items step.enter.at ≡ pos 0) }
 {
     if !stands(&leaving.by, step.enter.at) {
         return Err(Stop::Refused(Unfit));

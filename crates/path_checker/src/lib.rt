@@ -27,14 +27,14 @@
 //! numbers are the next corner's equations, why a set of marks to which no inside mark gives way is no
 //! corner, when no corner comes twice, and that the clauses of a path together are the path.
 //!
-//! A checker of whole paths is one unit in three crates. [`check_exchanges`], [`PathVerdict`] with the numbers
-//! of the clauses, [`PATH_LIMIT`] and the laws are what this one offers; all else that is public is for
-//! `path_levels` and `path_claims` alone, which go along the same route with the levels' rows.
+//! A checker of whole paths is one unit in three crates. [`check_exchanges`], [`PathVerdict`] with the
+//! numbers of the clauses, [`PATH_LIMIT`] and the laws are what this one offers; all else that is public is
+//! for `path_levels` and `path_claims` alone, which go along the same route with the levels' rows.
 //!
 //! In reading order: `spots` (marks by place), `table` (a corner's lines), `stop` (why a sum isn't made),
-//! `numbers` (lowest terms), `exchange`, `signs` (of values), `numbering` (corners by numbers), `route` (which
-//! mark is brought in, and corners that come twice), `first` (the lines where the route begins), `way` (the
-//! way to the first corner and along the swaps), `verdict` (the checker's answer), `check` (the first
+//! `numbers` (lowest terms), `exchange`, `signs` (of values), `numbering` (corners by numbers), `route`
+//! (which mark is brought in, and corners that come twice), `first` (the lines where the route begins), `way`
+//! (the way to the first corner and along the swaps), `verdict` (the checker's answer), `check` (the first
 //! clauses), `laws`, `costs` (what a line costs).
 #![tactic(auto)]
 

@@ -1,8 +1,8 @@
 //! The reader of problems, and of the words of which a line consists.
 //!
-//! `claim_writing` says what the text of a problem looks like, and writes it. The reader takes exactly what is
-//! written there, with comments and empty lines besides. To anything else it answers with the number of the
-//! first line outside the form.
+//! `claim_writing` says what the text of a problem looks like, and writes it. The reader takes exactly what
+//! is written there, with comments and empty lines besides. To anything else it answers with the number of
+//! the first line outside the form.
 //!
 //! ```
 //! // of the text `row 1 1000 1 >= 1 5 1:1`, `stay 1 0`, each on a line
@@ -13,11 +13,11 @@
 //! ```
 //!
 //! [`read_problem`] reads the lines of a text, one by one. [`Words`] are those of a line, and [`next_is`],
-//! [`next_number`] and [`next_fraction`] take the next one; [`natural`] and [`integer`] read a word that is at
-//! hand. `claim_text` reads claims by the same.
+//! [`next_number`] and [`next_fraction`] take the next one; [`natural`] and [`integer`] read a word that is
+//! at hand. `claim_text` reads claims by the same.
 //!
-//! A law says without the reader which lines are a problem: exactly those that the problem has, with some that
-//! are passed over; the line at which the reader stops is the first outside ([`problems_are_the_form`]).
+//! A law says without the reader which lines are a problem: exactly those that the problem has, with some
+//! that are passed over; the line at which the reader stops is the first outside ([`problems_are_the_form`]).
 //!
 //! Modules in reading order: `limits` and `stops` (why a text was not read); `words`, `numbers` and `fields`
 //! (the parts of a line). `problem::term_words`, `problem::row_lines`, `problem::stay_lines` and

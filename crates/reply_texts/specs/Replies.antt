@@ -51,6 +51,7 @@ kind_text kind.Priority = codes "priority"
 kind_text kind.Weight = codes "weight"
 kind_text kind.Window = codes "window"
 kind_text kind.Suggested = codes "suggested"
+kind_text kind.Sized = codes "sized"
 kind_text kind.Tree = codes "tree"
 
 -- a space and the fraction

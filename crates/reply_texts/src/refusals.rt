@@ -46,6 +46,7 @@ fn kind_text(word: KindWord) -> &'static str
         KindWord::Weight => "weight",
         KindWord::Window => "window",
         KindWord::Suggested => "suggested",
+        KindWord::Sized => "sized",
         KindWord::Tree => "tree",
     }
 }

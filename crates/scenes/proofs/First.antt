@@ -11,6 +11,8 @@ use Rattle.compile_parts.specs.Meaning.{MetricList}
 use Rattle.layout_solver.specs.Begins.{IsReached}
 use Rattle.layout_solver.specs.Layouts.{Layout, Solution, AreBest, solution_of, stays_at}
 use Rattle.held_items.specs.Items.{OfWindow}
+use Rattle.held_items.specs.declared.row_numbers.TheConstants.{FIRST_FREE_ROW}
+use Rattle.script_text.specs.declared.words.Direction.TheVariants.{Ltr}
 use Rattle.version_list.specs.Versions.{Versions}
 use Rattle.held_items.specs.declared.item.Item as declared
 use Rattle.held_items.specs.declared.item.Item.TheVariants as kind
@@ -21,6 +23,7 @@ use Rattle.scenes.specs.Kept.{AreAlike, IsKept, IsKeptHistory, history_at, scene
 use Rattle.held_items.specs.Kept.{IsItem, IsNamed}
 use Rattle.scenes.proofs.Engines.BestValues.{best-unique}
 use Rattle.problem_core.proofs.Sides.{zero-lowest as zero-IsLowest}
+use Rattle.scenes.specs.declared.scene.past.Setting.{Setting}
 
 abbrev pub first_problem : Problem
 first_problem = record { rows = structural_rows; stays = stays_at (new_values 0) }
@@ -58,12 +61,15 @@ first-corner l is best reached =
 abbrev pub first_tree : ViewTree
 first_tree = record { views = window ∷ []; next = 1 }
 
-pub first-is : (t : ViewTree) (l : Layout) → t ≡ first_tree → l.problem ≡ first_problem → AreBest l.problem l.values → scene_at t [] (OfWindow ∷ []) 5 l ≡ first_scene l.corner
-first-is t l t_is is best =
-    ap (λ (u : ViewTree). scene_at u [] (OfWindow ∷ []) 5 l) t_is
-    ∙ ap₂ (λ (p : Problem) (vs : List (ℕ × Fraction)). scene_at first_tree [] (OfWindow ∷ []) 5 (record l { problem = p; values = vs })) is (first-values l is best)
+abbrev pub first_setting : Setting
+first_setting = record { next_row = FIRST_FREE_ROW; direction = Ltr }
 
-pub first-kept : (t : ViewTree) (l : Layout) → l.problem ≡ first_problem → IsCounted t.views 5 l.problem → IsKept (scene_at t [] (OfWindow ∷ []) 5 l)
+pub first-is : (t : ViewTree) (l : Layout) → t ≡ first_tree → l.problem ≡ first_problem → AreBest l.problem l.values → scene_at t [] (OfWindow ∷ []) first_setting l ≡ first_scene l.corner
+first-is t l t_is is best =
+    ap (λ (u : ViewTree). scene_at u [] (OfWindow ∷ []) first_setting l) t_is
+    ∙ ap₂ (λ (p : Problem) (vs : List (ℕ × Fraction)). scene_at first_tree [] (OfWindow ∷ []) first_setting (record l { problem = p; values = vs })) is (first-values l is best)
+
+pub first-kept : (t : ViewTree) (l : Layout) → l.problem ≡ first_problem → IsCounted t.views 5 l.problem → IsKept (scene_at t [] (OfWindow ∷ []) first_setting l)
 first-kept t l is counted = record {
   are_rows = (structural_rows, [], ap (λ (p : Problem). p.rows) is, refl, refl);
   each = All-from_recursion IsItem (OfWindow ∷ []) (tt, tt);
@@ -82,17 +88,17 @@ abbrev pub first_items : Versions declared.Item
 first_items = record { items = kind.OfWindow ∷ []; before = [] }
 
 pub first-history : (t : ViewTree) (ms : MetricList) (items : Versions declared.Item) (l : Layout) (pasts : List Past) → t ≡ first_tree → ms ≡ [] → items ≡ first_items → l.problem ≡ first_problem → AreBest l.problem l.values
-    → history_at t ms items 5 l pasts ≡ record { scene = first_scene l.corner; earlier = [] }
+    → history_at t ms items first_setting l pasts ≡ record { scene = first_scene l.corner; earlier = [] }
 first-history t ms items l pasts t_is ms_is items_is is best =
-    ap (λ (m : MetricList). history_at t m items 5 l pasts) ms_is
-    ∙ ap (λ (v : Versions declared.Item). history_at t [] v 5 l pasts) items_is
+    ap (λ (m : MetricList). history_at t m items first_setting l pasts) ms_is
+    ∙ ap (λ (v : Versions declared.Item). history_at t [] v first_setting l pasts) items_is
     ∙ ap (λ (s : Scene). record { scene = s; earlier = [] }) (first-is t l t_is is best)
 
 pub first-history-kept : (t : ViewTree) (ms : MetricList) (items : Versions declared.Item) (l : Layout) (pasts : List Past) → ms ≡ [] → items ≡ first_items → l.problem ≡ first_problem → IsCounted t.views 5 l.problem
-    → IsKeptHistory (history_at t ms items 5 l pasts)
+    → IsKeptHistory (history_at t ms items first_setting l pasts)
 first-history-kept t ms items l pasts ms_is items_is is counted =
-    subst (λ (m : MetricList). IsKeptHistory (history_at t m items 5 l pasts)) (sym ms_is)
-    (subst (λ (v : Versions declared.Item). IsKeptHistory (history_at t [] v 5 l pasts)) (sym items_is)
+    subst (λ (m : MetricList). IsKeptHistory (history_at t m items first_setting l pasts)) (sym ms_is)
+    (subst (λ (v : Versions declared.Item). IsKeptHistory (history_at t [] v first_setting l pasts)) (sym items_is)
     (record { scene = first-kept t l is counted; earlier = All-from_recursion IsKept [] tt }))
 
 pub first-alike : (items : List (List declared.Item)) (solutions : List Solution) (pasts : List Past) → items ≡ [] → solutions ≡ [] → pasts ≡ [] → AreAlike items solutions pasts

@@ -15,11 +15,12 @@ use Rattle.held_items.specs.Kept.{items_of}
 use Rattle.scenes.specs.Scene.{Scene, with_earlier}
 use Rattle.held_items.specs.declared.limits.TheConstants.{EARLIER}
 use Rattle.held_items.proofs.Marks.{refused-items}
+use Rattle.scenes.specs.declared.scene.past.Setting.{Setting}
 
 -- ---- one solution, one scene
 
-pub same-scene : (tree : ViewTree) (metrics : MetricList) (held : List Item) (next : ℕ) (l m : Layout) → solution_of l ≡ solution_of m → scene_at tree metrics held next l ≡ scene_at tree metrics held next m
-same-scene tree metrics held next l m same = ap (scene_of tree metrics held next) same
+pub same-scene : (tree : ViewTree) (metrics : MetricList) (held : List Item) (setting : Setting) (l m : Layout) → solution_of l ≡ solution_of m → scene_at tree metrics held setting l ≡ scene_at tree metrics held setting m
+same-scene tree metrics held setting l m same = ap (scene_of tree metrics held setting) same
 
 -- ---- how many there are
 
@@ -62,49 +63,49 @@ earlier-take (suc n) tree metrics [] solutions pasts = refl
 earlier-take (suc n) tree metrics (items ∷ rest) [] pasts = refl
 earlier-take (suc n) tree metrics (items ∷ rest) (s ∷ solutions) [] = refl
 earlier-take (suc n) tree metrics (items ∷ rest) (s ∷ solutions) (p ∷ pasts) =
-    ap (λ (earlier : List Scene). scene_of (own_or p.tree tree) (own_or p.metrics metrics) (items_of items) p.next_row s ∷ earlier)
+    ap (λ (earlier : List Scene). scene_of (own_or p.tree tree) (own_or p.metrics metrics) (items_of items) p.setting s ∷ earlier)
     (earlier-take n (own_or p.tree tree) (own_or p.metrics metrics) rest solutions pasts)
 
 -- `past` says what the scene of the other parts has otherwise than one of these views and metrics after it
-module _ (tree tree' : ViewTree) (metrics metrics' : MetricList) (items : Versions declared.Item) (next : ℕ) (layout : Layout) (pasts : List Past) (past : Past)
-    (its_tree : own_or past.tree tree' ≡ tree) (its_metrics : own_or past.metrics metrics' ≡ metrics) (its_next : past.next_row ≡ next) where
+module _ (tree tree' : ViewTree) (metrics metrics' : MetricList) (items : Versions declared.Item) (setting : Setting) (layout : Layout) (pasts : List Past) (past : Past)
+    (its_tree : own_or past.tree tree' ≡ tree) (its_metrics : own_or past.metrics metrics' ≡ metrics) (its_setting : past.setting ≡ setting) where
   before-is : earlier_at tree' metrics' (items.items ∷ items.before) (solution_of layout ∷ layout.earlier) (past ∷ pasts)
-      ≡ scene_at tree metrics (items_of items.items) next layout ∷ earlier_at tree metrics items.before layout.earlier pasts
+      ≡ scene_at tree metrics (items_of items.items) setting layout ∷ earlier_at tree metrics items.before layout.earlier pasts
   before-is =
-      ap (λ (t : ViewTree). scene_of t (own_or past.metrics metrics') (items_of items.items) past.next_row (solution_of layout) ∷ earlier_at t (own_or past.metrics metrics') items.before layout.earlier pasts) its_tree
-      ∙ ap (λ (m : MetricList). scene_of tree m (items_of items.items) past.next_row (solution_of layout) ∷ earlier_at tree m items.before layout.earlier pasts) its_metrics
-      ∙ ap (λ (n : ℕ). scene_of tree metrics (items_of items.items) n (solution_of layout) ∷ earlier_at tree metrics items.before layout.earlier pasts) its_next
+      ap (λ (t : ViewTree). scene_of t (own_or past.metrics metrics') (items_of items.items) past.setting (solution_of layout) ∷ earlier_at t (own_or past.metrics metrics') items.before layout.earlier pasts) its_tree
+      ∙ ap (λ (m : MetricList). scene_of tree m (items_of items.items) past.setting (solution_of layout) ∷ earlier_at tree m items.before layout.earlier pasts) its_metrics
+      ∙ ap (λ (s : Setting). scene_of tree metrics (items_of items.items) s (solution_of layout) ∷ earlier_at tree metrics items.before layout.earlier pasts) its_setting
 
   pub next-earlier : earlier_at tree' metrics' (take EARLIER (items.items ∷ items.before)) (take EARLIER (solution_of layout ∷ layout.earlier)) (take EARLIER (past ∷ pasts))
-      ≡ with_earlier (scene_at tree metrics (items_of items.items) next layout) (earlier_at tree metrics items.before layout.earlier pasts)
+      ≡ with_earlier (scene_at tree metrics (items_of items.items) setting layout) (earlier_at tree metrics items.before layout.earlier pasts)
   next-earlier = earlier-take EARLIER tree' metrics' (items.items ∷ items.before) (solution_of layout ∷ layout.earlier) (past ∷ pasts) ∙ ap (take EARLIER) before-is
 
   -- the lists that `keep` leaves, once what is held and the engine were marked
   module _ (marked before : List (List declared.Item)) (run earlier : List Solution) (kept : List Past)
       (are_marked : marked ≡ items.items ∷ items.before) (are_run : run ≡ solution_of layout ∷ layout.earlier)
       (items_are : before ≡ take EARLIER marked) (solutions_are : earlier ≡ take EARLIER run) (pasts_are : kept ≡ take EARLIER (past ∷ pasts)) where
-    pub kept-earlier : earlier_at tree' metrics' before earlier kept ≡ with_earlier (scene_at tree metrics (items_of items.items) next layout) (earlier_at tree metrics items.before layout.earlier pasts)
+    pub kept-earlier : earlier_at tree' metrics' before earlier kept ≡ with_earlier (scene_at tree metrics (items_of items.items) setting layout) (earlier_at tree metrics items.before layout.earlier pasts)
     kept-earlier =
         ap (λ (xs : List (List declared.Item)). earlier_at tree' metrics' xs earlier kept) (items_are ∙ ap (take EARLIER) are_marked)
         ∙ ap (λ (xs : List Solution). earlier_at tree' metrics' (take EARLIER (items.items ∷ items.before)) xs kept) (solutions_are ∙ ap (take EARLIER) are_run)
         ∙ ap (earlier_at tree' metrics' (take EARLIER (items.items ∷ items.before)) (take EARLIER (solution_of layout ∷ layout.earlier))) pasts_are
         ∙ next-earlier
 
-    pub kept-earlier-IsKept : IsKeptHistory (history_at tree metrics items next layout pasts) → All IsKept (earlier_at tree' metrics' before earlier kept)
+    pub kept-earlier-IsKept : IsKeptHistory (history_at tree metrics items setting layout pasts) → All IsKept (earlier_at tree' metrics' before earlier kept)
     kept-earlier-IsKept sound =
-        let scene : Scene = scene_at tree metrics (items_of items.items) next layout in
+        let scene : Scene = scene_at tree metrics (items_of items.items) setting layout in
         let scenes : List Scene = earlier_at tree metrics items.before layout.earlier pasts in
         All-same IsKept (earlier_at tree' metrics' before earlier kept) (with_earlier scene scenes) kept-earlier
         (All-take IsKept EARLIER (scene ∷ scenes) (All-cons IsKept scene scenes sound.scene sound.earlier))
 
   -- `new`, `after` and `kept` are what `keep` leaves
-  pub next-history : (new : Versions declared.Item) (next' : ℕ) (after : Layout) (kept : List Past) (marked : List (List declared.Item)) (run : List Solution)
+  pub next-history : (new : Versions declared.Item) (setting' : Setting) (after : Layout) (kept : List Past) (marked : List (List declared.Item)) (run : List Solution)
       → marked ≡ items.items ∷ items.before → run ≡ solution_of layout ∷ layout.earlier
       → new.before ≡ take EARLIER marked → after.earlier ≡ take EARLIER run → kept ≡ take EARLIER (past ∷ pasts)
-      → IsKeptHistory (history_at tree metrics items next layout pasts)
-      → IsKept (scene_at tree' metrics' (items_of new.items) next' after)
-      → IsKeptHistory (history_at tree' metrics' new next' after kept)
-  next-history new next' after kept marked run are_marked are_run items_are solutions_are pasts_are sound is = record {
+      → IsKeptHistory (history_at tree metrics items setting layout pasts)
+      → IsKept (scene_at tree' metrics' (items_of new.items) setting' after)
+      → IsKeptHistory (history_at tree' metrics' new setting' after kept)
+  next-history new setting' after kept marked run are_marked are_run items_are solutions_are pasts_are sound is = record {
     scene = is;
     earlier = kept-earlier-IsKept marked new.before run after.earlier kept are_marked are_run items_are solutions_are pasts_are sound;
   }
@@ -112,13 +113,13 @@ module _ (tree tree' : ViewTree) (metrics metrics' : MetricList) (items : Versio
 -- ---- a scene that was marked is taken back
 
 -- `new` and `after` are the items and the engine after a refusal
-module _ (tree : ViewTree) (metrics : MetricList) (old new : Versions declared.Item) (next : ℕ) (layout after : Layout) (pasts : List Past) (same_items : new ≡ old) (same_layout : after ≡ layout) where
-  pub unchanged : history_at tree metrics new next after pasts ≡ history_at tree metrics old next layout pasts
+module _ (tree : ViewTree) (metrics : MetricList) (old new : Versions declared.Item) (setting : Setting) (layout after : Layout) (pasts : List Past) (same_items : new ≡ old) (same_layout : after ≡ layout) where
+  pub unchanged : history_at tree metrics new setting after pasts ≡ history_at tree metrics old setting layout pasts
   unchanged =
-      ap (λ (items : Versions declared.Item). history_at tree metrics items next after pasts) same_items
-      ∙ ap (λ (l : Layout). history_at tree metrics old next l pasts) same_layout
+      ap (λ (items : Versions declared.Item). history_at tree metrics items setting after pasts) same_items
+      ∙ ap (λ (l : Layout). history_at tree metrics old setting l pasts) same_layout
 
-  pub unchanged-IsKept : IsKeptHistory (history_at tree metrics old next layout pasts) → IsKeptHistory (history_at tree metrics new next after pasts)
+  pub unchanged-IsKept : IsKeptHistory (history_at tree metrics old setting layout pasts) → IsKeptHistory (history_at tree metrics new setting after pasts)
   unchanged-IsKept = subst IsKeptHistory (sym unchanged)
 
   pub unchanged-AreAlike : AreAlike old.before layout.earlier pasts → AreAlike new.before after.earlier pasts
@@ -126,27 +127,27 @@ module _ (tree : ViewTree) (metrics : MetricList) (old new : Versions declared.I
       subst (λ (l : Layout). AreAlike new.before l.earlier pasts) (sym same_layout)
       (subst (λ (items : Versions declared.Item). AreAlike items.before layout.earlier pasts) (sym same_items) alike)
 
-pub refused-same : (tree : ViewTree) (metrics : MetricList) (old new : Versions declared.Item) (next : ℕ) (layout after : Layout) (pasts : List Past) (before : List (List declared.Item))
+pub refused-same : (tree : ViewTree) (metrics : MetricList) (old new : Versions declared.Item) (setting : Setting) (layout after : Layout) (pasts : List Past) (before : List (List declared.Item))
     → before ≡ old.items ∷ old.before → before ≡ new.items ∷ new.before → after ≡ layout
-    → history_at tree metrics new next after pasts ≡ history_at tree metrics old next layout pasts
-refused-same tree metrics old new next layout after pasts before are_old are_new same_layout =
-    unchanged tree metrics old new next layout after pasts (refused-items old new before are_old are_new) same_layout
+    → history_at tree metrics new setting after pasts ≡ history_at tree metrics old setting layout pasts
+refused-same tree metrics old new setting layout after pasts before are_old are_new same_layout =
+    unchanged tree metrics old new setting layout after pasts (refused-items old new before are_old are_new) same_layout
 
 -- ---- the latest earlier scene is the scene
 
-module _ (tree tree' : ViewTree) (metrics metrics' : MetricList) (items new : Versions declared.Item) (next next' : ℕ) (layout after : Layout) (pasts rest : List Past) (past : Past)
+module _ (tree tree' : ViewTree) (metrics metrics' : MetricList) (items new : Versions declared.Item) (setting setting' : Setting) (layout after : Layout) (pasts rest : List Past) (past : Past)
     (pasts_are : pasts ≡ past ∷ rest) (items_are : items.before ≡ new.items ∷ new.before) (solutions_are : layout.earlier ≡ solution_of after ∷ after.earlier)
-    (its_tree : own_or past.tree tree ≡ tree') (its_metrics : own_or past.metrics metrics ≡ metrics') (its_next : past.next_row ≡ next') where
-  pub back-history : earlier_at tree metrics items.before layout.earlier pasts ≡ scene_at tree' metrics' (items_of new.items) next' after ∷ earlier_at tree' metrics' new.before after.earlier rest
+    (its_tree : own_or past.tree tree ≡ tree') (its_metrics : own_or past.metrics metrics ≡ metrics') (its_setting : past.setting ≡ setting') where
+  pub back-history : earlier_at tree metrics items.before layout.earlier pasts ≡ scene_at tree' metrics' (items_of new.items) setting' after ∷ earlier_at tree' metrics' new.before after.earlier rest
   back-history =
       ap (λ (xs : List (List declared.Item)). earlier_at tree metrics xs layout.earlier pasts) items_are
       ∙ ap (λ (xs : List Solution). earlier_at tree metrics (new.items ∷ new.before) xs pasts) solutions_are
       ∙ ap (earlier_at tree metrics (new.items ∷ new.before) (solution_of after ∷ after.earlier)) pasts_are
-      ∙ before-is tree' tree metrics' metrics new next' after rest past its_tree its_metrics its_next
+      ∙ before-is tree' tree metrics' metrics new setting' after rest past its_tree its_metrics its_setting
 
-  pub back-IsKept : IsKeptHistory (history_at tree metrics items next layout pasts) → IsKeptHistory (history_at tree' metrics' new next' after rest)
+  pub back-IsKept : IsKeptHistory (history_at tree metrics items setting layout pasts) → IsKeptHistory (history_at tree' metrics' new setting' after rest)
   back-IsKept sound =
-      let scene : Scene = scene_at tree' metrics' (items_of new.items) next' after in
+      let scene : Scene = scene_at tree' metrics' (items_of new.items) setting' after in
       let scenes : List Scene = earlier_at tree' metrics' new.before after.earlier rest in
       let all : All IsKept (scene ∷ scenes) = All-same IsKept (scene ∷ scenes) (earlier_at tree metrics items.before layout.earlier pasts) (sym back-history) sound.earlier in
       record {

@@ -1,5 +1,5 @@
 -- A scene of what is held and the engine, once these are kept.
-use Rattle.std.proofs.Common.{◌≡◌, ◌∙◌, ℕ, List, sym, ap}
+use Rattle.std.proofs.Common.{◌≡◌, ◌∙◌, List, sym, ap}
 use Rattle.view_tree.specs.Views.{ViewTree}
 use Rattle.compile_parts.specs.Meaning.{MetricList}
 use Rattle.layout_solver.specs.Layouts.{Layout, solution_of}
@@ -7,10 +7,11 @@ use Rattle.held_items.specs.declared.item.Item as declared
 use Rattle.held_items.specs.Kept.{items_of}
 use Rattle.scenes.specs.Kept.{scene_at}
 use Rattle.scenes.proofs.Histories.{same-scene}
+use Rattle.scenes.specs.declared.scene.past.Setting.{Setting}
 
-pub kept-scene : (tree : ViewTree) (metrics : MetricList) (items kept : List declared.Item) (next : ℕ) (layout after : Layout)
+pub kept-scene : (tree : ViewTree) (metrics : MetricList) (items kept : List declared.Item) (setting : Setting) (layout after : Layout)
     → kept ≡ items → solution_of after ≡ solution_of layout
-    → scene_at tree metrics (items_of items) next layout ≡ scene_at tree metrics (items_of kept) next after
-kept-scene tree metrics items kept next layout after same alike =
-    ap (λ (is : List declared.Item). scene_at tree metrics (items_of is) next layout) (sym same)
-    ∙ same-scene tree metrics (items_of kept) next layout after (sym alike)
+    → scene_at tree metrics (items_of items) setting layout ≡ scene_at tree metrics (items_of kept) setting after
+kept-scene tree metrics items kept setting layout after same alike =
+    ap (λ (is : List declared.Item). scene_at tree metrics (items_of is) setting layout) (sym same)
+    ∙ same-scene tree metrics (items_of kept) setting layout after (sym alike)

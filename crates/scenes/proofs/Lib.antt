@@ -6,5 +6,7 @@ pub mod KeptScenes
 pub mod MetricChanges
 pub mod NextItems
 pub mod Removals
-pub mod SuggestionScenes
+pub mod Renewals
+pub mod Settings
+pub mod Turned
 pub mod Views

@@ -1,5 +1,5 @@
 -- The changes for metrics of which one has another value.
-use Rattle.std.proofs.Common.{◌≡◌, ◌∙◌, ℕ, ◌+◌, ◌<◌, Bool, true, false, true≢false, cond, is_some, Some, None, List, [], ◌∷◌, ◌++◌, refl, sym, ap, subst, All, Any, inl, inr}
+use Rattle.std.proofs.Common.{◌≡◌, ◌∙◌, ℕ, ◌<◌, Bool, true, false, true≢false, cond, is_some, Some, None, List, [], ◌∷◌, ◌++◌, refl, sym, ap, subst, All, Any, inl, inr}
 use Rattle.std.specs.List.{AllByRecursion as Each}
 use Rattle.std.specs.Map.{set_value}
 use Rattle.std.specs.Str.{bytes_eq}
@@ -31,6 +31,7 @@ use Rattle.held_items.proofs.Constants.AlikeRows.{alike-rows}
 use Rattle.held_items.proofs.Constants.ConstantChanges.{AreChanges, changes-can, changes-rising, changes-rows}
 use Rattle.held_items.proofs.Constants.MovedRows.{HasAfter, rows-after, small-naming}
 use Rattle.held_items.proofs.Constants.NearMoves.{above-zero, far-moves, moved-changes, moves-near}
+use Rattle.scenes.specs.declared.scene.past.Setting.{Setting}
 
 -- ---- other metrics
 
@@ -70,12 +71,12 @@ above ms [] (c ∷ constants) are = absurd are
 above ms (f ∷ forms) [] are = absurd are
 above ms (f ∷ forms) (c ∷ constants) are = (are.0.constant.lowest.above, above ms forms constants are.1)
 
-module _ (tree : ViewTree) (ms : MetricList) (held : List Item) (next : ℕ) (l : Layout) (name : List ℕ) (new : MetricList) (same : AreSameBut name ms new) (before : AreRows ms held l.problem.rows) (whole : IsWhole l.problem)
+module _ (tree : ViewTree) (ms : MetricList) (held : List Item) (setting : Setting) (l : Layout) (name : List ℕ) (new : MetricList) (same : AreSameBut name ms new) (before : AreRows ms held l.problem.rows) (whole : IsWhole l.problem)
     (constants : List RowConstant) (own : AreConstantsOf new (naming name (forms_of held)) constants) where
   after : HasAfter name ms new same (AreRows new held) l.problem.rows constants
   after = rows-after name ms new same held l.problem.rows constants before own
 
-  pub changes-made : (to : List Change) → AreMoves l.problem.rows constants to → AreKept to → AreChangesFor (scene_at tree ms held next l) new to
+  pub changes-made : (to : List Change) → AreMoves l.problem.rows constants to → AreKept to → AreChangesFor (scene_at tree ms held setting l) new to
   changes-made to moves kept =
       let changes : AreChanges l.problem.rows after.after to = moved-changes l.problem.rows after.after constants to after.changes moves in
       let rows : shifted to l.problem.rows ≡ after.after =
@@ -92,12 +93,12 @@ module _ (tree : ViewTree) (ms : MetricList) (held : List Item) (next : ℕ) (l 
         kept = kept;
       }
 
-  pub changes-far : (cause : LargeConstant) → Any (IsFar l.problem.rows) constants → MayLackChanges (scene_at tree ms held next l) new (stop.Refused cause)
+  pub changes-far : (cause : LargeConstant) → Any (IsFar l.problem.rows) constants → MayLackChanges (scene_at tree ms held setting l) new (stop.Refused cause)
   changes-far cause far = inr (after.after, after.are, far-moves l.problem.rows after.after constants whole.rising after.changes far)
 
 -- ---- what isn't small
 
-pub changes-lack : (tree : ViewTree) (ms : MetricList) (held : List Item) (next : ℕ) (l : Layout) (name : List ℕ) (new : MetricList) (s : Stop LargeConstant) → IsConstantStop new (naming name (forms_of held)) s
-    → MayLackChanges (scene_at tree ms held next l) new s
-changes-lack tree ms held next l name new (stop.Refused cause) h = inl (λ small. h (small-naming new name held small))
-changes-lack tree ms held next l name new stop.OutOfMemory h = h
+pub changes-lack : (tree : ViewTree) (ms : MetricList) (held : List Item) (setting : Setting) (l : Layout) (name : List ℕ) (new : MetricList) (s : Stop LargeConstant) → IsConstantStop new (naming name (forms_of held)) s
+    → MayLackChanges (scene_at tree ms held setting l) new s
+changes-lack tree ms held setting l name new (stop.Refused cause) h = inl (λ small. h (small-naming new name held small))
+changes-lack tree ms held setting l name new stop.OutOfMemory h = h

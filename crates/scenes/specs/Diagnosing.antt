@@ -24,9 +24,9 @@ AreFindingsOf scene f = AreFindings (problem_of scene) scene.values f
 abbrev pub IsProbedStop : Scene → ℕ → ℕ → DiagnoseStop → Type 0
 IsProbedStop scene budget attr stop = (l : Layout) × IsLayoutOf scene l × IsStopAt l budget attr stop
 
--- The levels certify the scene's values. They are the own ones of its corner, where these stand: the strongest
--- first, none twice and none without need, each with the multipliers of its lines in their order, none 0, in
--- lowest terms.
+-- The levels certify the scene's values. They are the own ones of its corner, where these stand: the
+-- strongest first, none twice and none without need, each with the multipliers of its lines in their order,
+-- none 0, in lowest terms.
 pub record IsCertificateOf (scene : Scene) (levels : List BestLevel) : Type 0 where
   pub certified : IsCertified (problem_of scene) scene.values levels
   pub reached : IsReached (problem_of scene) scene.corner scene.values

@@ -12,20 +12,25 @@ use Rattle.held_items.specs.declared.item.coming.NewViews.{NewViews}
 use Rattle.held_items.specs.declared.item.leaving.Leaver.{Leaver}
 use Rattle.scenes.specs.Steps.{LeaveStopsAt, RunStopsAt, HasLeft, HasSolved}
 use Rattle.held_items.specs.Attributes.{IsGrown, IsNextLine}
+use Rattle.held_items.specs.declared.item.intrinsic.IntrinsicSize.{IntrinsicSize}
+use Rattle.held_items.specs.declared.item.intrinsic.NewIntrinsic.TheVariants as wished
+use Rattle.held_items.specs.declared.item.renewing.Renewal.{Renewal}
+use Rattle.held_items.specs.declared.item.renewing.Renewal.TheVariants as renewal
 use Rattle.held_items.specs.declared.item.suggesting.NewSuggestion.TheVariants as made
 use Rattle.held_items.specs.declared.limits.TheConstants.{MOST_ROWS}
 use Rattle.constraint_compile.specs.Compiled.{AreRowsNow, CompiledLine}
-use Rattle.held_items.specs.Kept.{is_leaving, item_of}
+use Rattle.held_items.specs.Kept.{is_leaving, item_of, renewed_by}
 use Rattle.scenes.specs.Leaving.{without_items}
 use Rattle.scenes.specs.Moving.{AreChangesFor}
-use Rattle.scenes.specs.Scene.{History, Scene, with_item, with_line, with_suggested, with_suggestion, with_window}
-use Rattle.scenes.specs.Scene.{moved, new_stays_from}
+use Rattle.scenes.specs.Scene.{History, Scene, with_item, with_line, with_suggested, with_suggestion}
+use Rattle.scenes.specs.Scene.{with_window}
+use Rattle.scenes.specs.Scene.{moved, new_stays_from, with_intrinsic, with_preferred}
 use Rattle.scenes.specs.declared.scene.updates.Update.{Update}
 use Rattle.scenes.specs.declared.scene.updates.Update.TheVariants as update
 use Rattle.view_tree.specs.Views.{ViewTree, LiveView, view_named}
 use Rattle.compile_parts.specs.Meaning.{MetricList, IsRowRank}
-use Rattle.held_items.specs.declared.row_numbers.TheConstants.{SIZE_ROWS, VIEW_ROWS}
-use Rattle.held_items.specs.Items.{has_size, suggestion_of, view_items}
+use Rattle.held_items.specs.declared.row_numbers.TheConstants.{INTRINSIC_ROWS, SIZE_ROWS, VIEW_ROWS}
+use Rattle.held_items.specs.Items.{Size, has_size, intrinsic_of, size_of, suggestion_of, view_items}
 use Rattle.held_items.specs.Moving.{FitsAfter, IsFarSize}
 use Rattle.held_items.specs.declared.item.Item as declared
 
@@ -64,6 +69,15 @@ window_draft old size = with_window old size.width size.height
 abbrev pub again_draft : Scene → Suggestion → Scene
 again_draft old again = with_suggested old again.view again.word again.constant
 
+-- with the width and height of this size, whose view has one that is held
+abbrev pub preferred_draft : Scene → IntrinsicSize → Scene
+preferred_draft old again = with_preferred old again.view again.width again.height
+
+-- with other constants of what is held
+abbrev pub renewed_draft : Scene → Renewal → Scene
+renewed_draft old renewal =
+    record old { held = renewed_by renewal old.held; stays = moved old.stays old.values }
+
 -- the tree of the views that come has those of the scene, and so many more from this number on
 abbrev pub AreComing : Scene → NewViews → Type 0
 AreComing old new = IsGrown old.tree.views new.tree.views new.first_view.0 new.count
@@ -85,6 +99,38 @@ pub record IsNearSuggestion (scene : Scene) (s : Suggestion) : Type 0 where
   pub found : suggestion_of s.view s.word scene.held ≡ Some before
   pub row : s.row ≡ before.row
   pub near : FitsAfter before.constant s.constant
+
+-- ---- sizes of views
+
+-- the size's rows have the next numbers, its ranks are such as priorities stand for, and its view is there
+pub record IsNextIntrinsic (scene : Scene) (s : IntrinsicSize) : Type 0 where
+  pub row : s.first_row ≡ scene.next_row
+  pub resist : IsRowRank s.resist
+  pub hug : IsRowRank s.hug
+  pub name : List ℕ
+  pub view : LiveView
+  pub found : view_named scene.tree.views name ≡ Some view
+  pub same : s.view ≡ view.id
+
+-- it is held with these ranks, and no constant moves too far
+pub record IsNearIntrinsic (scene : Scene) (s : IntrinsicSize) : Type 0 where
+  pub before : IntrinsicSize
+  pub found : intrinsic_of s.view scene.held ≡ Some before
+  pub row : s.first_row ≡ before.first_row
+  pub resist : s.resist ≡ before.resist
+  pub hug : s.hug ≡ before.hug
+  pub width : FitsAfter before.width s.width
+  pub height : FitsAfter before.height s.height
+
+-- ---- other constants
+
+-- what gets them is held, with rows of these numbers, and no constant moves too far
+abbrev pub IsNearRenewal : Scene → Renewal → Type 0
+IsNearRenewal scene (renewal.Size held) = (before : Size) × (size_of scene.held ≡ Some before)
+    × (held.first_row ≡ before.first_row) × FitsAfter before.width held.size.width
+    × FitsAfter before.height held.size.height
+IsNearRenewal scene (renewal.Suggestion again) = IsNearSuggestion scene again
+IsNearRenewal scene (renewal.Intrinsic again) = IsNearIntrinsic scene again
 
 -- ---- updates
 
@@ -112,6 +158,8 @@ updated old (update.Size size) = window_draft old size
 updated old (update.Line new) = with_line old new.group new.line
 updated old (update.Suggestion (made.First s)) = with_suggestion old s
 updated old (update.Suggestion (made.Again s)) = again_draft old s
+updated old (update.Intrinsic (wished.First s)) = with_intrinsic old s
+updated old (update.Intrinsic (wished.Again s)) = preferred_draft old s
 
 -- the scene may be so updated
 abbrev pub MayUpdate : Scene → Update → Type 0
@@ -120,6 +168,8 @@ MayUpdate old (update.Size size) = MayHaveSize old size
 MayUpdate old (update.Line new) = MayHaveLine old new.line new.rows.items
 MayUpdate old (update.Suggestion (made.First s)) = IsNextSuggestion old s × HasRoomFor old 1
 MayUpdate old (update.Suggestion (made.Again s)) = IsNearSuggestion old s
+MayUpdate old (update.Intrinsic (wished.First s)) = IsNextIntrinsic old s × HasRoomFor old INTRINSIC_ROWS
+MayUpdate old (update.Intrinsic (wished.Again s)) = IsNearIntrinsic old s
 
 -- ---- steps
 

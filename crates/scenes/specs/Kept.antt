@@ -1,12 +1,12 @@
 -- What a scene keeps, and of which parts it is made.
-use Rattle.std.specs.Prelude.{◌≡◌, ℕ, ◌+◌, ◌<◌, ◌≤◌, List, [], ◌∷◌, All, length, Option, Some, None}
+use Rattle.std.specs.Prelude.{◌≡◌, ◌+◌, ◌<◌, ◌≤◌, List, [], ◌∷◌, All, length, Option, Some, None}
 use Rattle.compile_parts.specs.Meaning.{MetricList}
 use Rattle.view_tree.specs.Views.{ViewTree}
-use Rattle.problem_core.specs.Layout.{Problem, Row}
-use Rattle.frac_core.specs.Fraction.{Fraction}
+use Rattle.problem_core.specs.Layout.{Row}
 use Rattle.version_list.specs.Versions.{Versions}
 use Rattle.layout_solver.specs.Layouts.{Layout, Solution, solution_of}
 use Rattle.scenes.specs.declared.scene.past.Past.{Past}
+use Rattle.scenes.specs.declared.scene.past.Setting.{Setting}
 use Rattle.held_items.specs.Items.{Item, AreItemRows, AreRows}
 use Rattle.scenes.specs.Scene.{History, Scene, problem_of}
 use Rattle.held_items.specs.Attributes.{IsCounted, MayBeAdded, all_attributes}
@@ -20,12 +20,13 @@ abbrev pub no_layout : Layout
 no_layout = record { problem = record { rows = []; stays = [] }; values = []; corner = []; earlier = [] }
 
 -- the scene of these parts
-abbrev pub scene_of : ViewTree → MetricList → List Item → ℕ → Solution → Scene
-scene_of tree metrics held next_row s = record {
+abbrev pub scene_of : ViewTree → MetricList → List Item → Setting → Solution → Scene
+scene_of tree metrics held setting s = record {
   tree = tree;
   metrics = metrics;
   held = held;
-  next_row = next_row;
+  next_row = setting.next_row;
+  direction = setting.direction;
   rows = s.problem.rows;
   stays = s.problem.stays;
   values = s.values;
@@ -33,9 +34,9 @@ scene_of tree metrics held next_row s = record {
 }
 
 -- the same, with the solution of a layout
-abbrev pub scene_at : ViewTree → MetricList → List Item → ℕ → Layout → Scene
-scene_at tree metrics held next_row layout =
-    scene_of tree metrics held next_row (solution_of layout)
+abbrev pub scene_at : ViewTree → MetricList → List Item → Setting → Layout → Scene
+scene_at tree metrics held setting layout =
+    scene_of tree metrics held setting (solution_of layout)
 
 -- what an earlier scene has, if it isn't what the scene after it has
 abbrev pub own_or : {A : Type 0} → Option A → A → A
@@ -49,13 +50,14 @@ earlier_at tree metrics [] solutions pasts = []
 earlier_at tree metrics (items ∷ rest) [] pasts = []
 earlier_at tree metrics (items ∷ rest) (s ∷ solutions) [] = []
 earlier_at tree metrics (items ∷ rest) (s ∷ solutions) (p ∷ pasts) =
-    scene_of (own_or p.tree tree) (own_or p.metrics metrics) (items_of items) p.next_row s
+    scene_of (own_or p.tree tree) (own_or p.metrics metrics) (items_of items) p.setting s
     ∷ earlier_at (own_or p.tree tree) (own_or p.metrics metrics) rest solutions pasts
 
 -- the scene of these parts, with those before it
-abbrev pub history_at : ViewTree → MetricList → Versions declared.Item → ℕ → Layout → List Past → History
-history_at tree metrics items next_row layout pasts = record {
-  scene = scene_at tree metrics (items_of items.items) next_row layout;
+abbrev pub history_at : ViewTree → MetricList → Versions declared.Item → Setting → Layout → List Past
+    → History
+history_at tree metrics items setting layout pasts = record {
+  scene = scene_at tree metrics (items_of items.items) setting layout;
   earlier = earlier_at tree metrics items.before layout.earlier pasts;
 }
 

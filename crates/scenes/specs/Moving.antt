@@ -1,5 +1,5 @@
 -- What another value of a metric changes.
-use Rattle.std.specs.Prelude.{◌<◌, ⊤, ◌⊎◌, List, [], All, AllPairs}
+use Rattle.std.specs.Prelude.{◌<◌, ⊤, ◌⊎◌, List, All, AllPairs}
 use Rattle.problem_core.specs.Layout.{Row}
 use Rattle.compile_parts.specs.Meaning.{MetricList}
 use Rattle.frac_core.specs.declared.memory.Stop.{Stop}

@@ -16,23 +16,29 @@ use Rattle.constraint_compile.specs.Compiled.{CompiledLine}
 use Rattle.layout_solver.specs.Begins.{IsReached}
 use Rattle.layout_solver.specs.Layouts.{AreBest, stays_at, zeros}
 use Rattle.script_text.specs.declared.words.AttrWord.{AttrWord}
+use Rattle.script_text.specs.declared.words.Direction.{Direction}
+use Rattle.script_text.specs.declared.words.Direction.TheVariants.{Ltr}
 use Rattle.constraint_compile.specs.declared.suggestion.Suggestion.{Suggestion}
-use Rattle.held_items.specs.Items.{Item, OfWindow, OfView, Sized, OfLine, Suggested, AreRows, has_size}
-use Rattle.held_items.specs.Items.{resized, suggested_again, view_items}
+use Rattle.held_items.specs.Items.{Item, OfWindow, OfView, Sized, OfLine, Suggested, Intrinsic, AreRows}
+use Rattle.held_items.specs.Items.{has_size, intrinsic_again, resized, suggested_again, view_items}
+use Rattle.held_items.specs.declared.item.intrinsic.IntrinsicSize.{IntrinsicSize}
 use Rattle.held_items.specs.Attributes.{attributes_from}
 use Rattle.held_items.specs.declared.limits.TheConstants.{EARLIER}
-use Rattle.held_items.specs.declared.row_numbers.TheConstants.{FIRST_FREE_ROW, SIZE_ROWS, VIEW_ROWS}
+use Rattle.held_items.specs.declared.row_numbers.TheConstants.{FIRST_FREE_ROW, INTRINSIC_ROWS, SIZE_ROWS}
+use Rattle.held_items.specs.declared.row_numbers.TheConstants.{VIEW_ROWS}
 use Rattle.view_tree.specs.Views as tree
 use Rattle.view_tree.specs.JsonTrees as branches
 
 -- the views, the metrics in order of definition, what is held in order of acceptance, the number that the
--- next row takes, the rows by rising number, the stays, the values by their attributes' numbers, and the marks
--- inside at the corner that is kept for them
+-- next row takes, the direction in which lines and suggestions that come are meant, the rows by rising
+-- number, the stays, the values by their attributes' numbers, and the marks inside at the corner that is kept
+-- for them
 pub record Scene : Type 0 where
   pub tree : ViewTree
   pub metrics : MetricList
   pub held : List Item
   pub next_row : ℕ
+  pub direction : Direction
   pub rows : List Row
   pub stays : List Stay
   pub values : List (ℕ × Fraction)
@@ -125,6 +131,10 @@ with_window old width height = record old {
   stays = moved old.stays old.values;
 }
 
+-- with another direction
+abbrev pub with_direction : Scene → Direction → Scene
+with_direction old to = record old { direction = to; stays = moved old.stays old.values }
+
 -- with an item more, which has so many rows
 abbrev pub with_item : Scene → Item → ℕ → Scene
 with_item old item count = record old {
@@ -148,6 +158,17 @@ with_suggested old view word constant = record old {
   stays = moved old.stays old.values;
 }
 
+-- with the size that a view would like, whose rows take the next numbers
+abbrev pub with_intrinsic : Scene → IntrinsicSize → Scene
+with_intrinsic old s = with_item old (Intrinsic s) INTRINSIC_ROWS
+
+-- with another width and height in place of those that the view would like
+abbrev pub with_preferred : Scene → ℕ → Fraction → Fraction → Scene
+with_preferred old view width height = record old {
+  held = intrinsic_again view width height old.held;
+  stays = moved old.stays old.values;
+}
+
 -- the rows that a draft stands for
 abbrev pub AreDraftRows : Scene → List Row → Type 0
 AreDraftRows draft rows = AreRows draft.metrics draft.held rows
@@ -156,8 +177,8 @@ AreDraftRows draft rows = AreRows draft.metrics draft.held rows
 abbrev pub draft_problem : Scene → List Row → Problem
 draft_problem draft rows = record { rows = rows; stays = draft.stays }
 
--- all but the rows, the values and the corner is as drafted, the rows are those of what is held, the values are
--- the best, and stand at the corner, which is an end
+-- all but the rows, the values and the corner is as drafted, the rows are those of what is held, the values
+-- are the best, and stand at the corner, which is an end
 pub record Becomes (draft new : Scene) : Type 0 where
   pub same : new ≡ record draft { rows = new.rows; values = new.values; corner = new.corner }
   pub rows : AreDraftRows draft new.rows
@@ -177,6 +198,7 @@ first_scene corner = record {
   metrics = [];
   held = OfWindow ∷ [];
   next_row = FIRST_FREE_ROW;
+  direction = Ltr;
   rows = structural_rows;
   stays = new_stays 0;
   values = new_values 0;

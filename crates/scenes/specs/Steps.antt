@@ -1,5 +1,5 @@
 -- The way from a scene to a draft of it: how it is solved, and why it stops.
-use Rattle.std.specs.Prelude.{◌≡◌, ℕ, ◌+◌, ◌<◌, ◌⊎◌, List, [], ◌++◌, true, false, map, AllPairs}
+use Rattle.std.specs.Prelude.{◌≡◌, ℕ, ◌<◌, ◌⊎◌, List, [], ◌++◌, true, false, map, AllPairs}
 use Rattle.problem_core.specs.Layout.{Row, Problem}
 use Rattle.cert_core.specs.Paths.{Path}
 use Rattle.cert_core.specs.declared.stops.RunStop.{RunStop}
@@ -33,7 +33,8 @@ pub record IsStart (scene : Scene) (rows : List Row) (s : Start) : Type 0 where
   pub kept : s.kept ≡ scene.corner
   pub way : IsJoining rows s ⊎ IsShifting rows s
 
--- the new scene is this draft with its rows and the best values, to whose corner a path within the budget leads
+-- the new scene is this draft with its rows and the best values, to whose corner a path within the budget
+-- leads
 pub record IsSolved (scene draft : Scene) (budget : ℕ) (path : Path) (new : Scene) : Type 0 where
   pub becomes : Becomes draft new
   pub start : Start
@@ -60,8 +61,8 @@ pub record IsLeaving (scene draft : Scene) (rows : List Row) (l : Leaving) : Typ
   pub rising : AllPairs (λ a b. a < b) l.rows
   pub left : draft_problem draft rows ≡ without l (stood_of scene)
 
--- the new scene is this draft with its rows and the best values, to whose corner a path within the budget leads
--- from where the rows have left the corner that is kept for the scene
+-- the new scene is this draft with its rows and the best values, to whose corner a path within the budget
+-- leads from where the rows have left the corner that is kept for the scene
 pub record HasLeft (scene draft : Scene) (budget : ℕ) (new : Scene) : Type 0 where
   pub becomes : Becomes draft new
   pub leaving : Leaving
@@ -84,7 +85,8 @@ IsProblemOf draft p = AreDraftRows draft p.rows × (p.stays ≡ draft.stays)
 
 -- ---- stops
 
--- these have left the problem, and a run within the budget has led to the new corner, at which the values stand
+-- these have left the problem, and a run within the budget has led to the new corner, at which the values
+-- stand
 pub record HasRun (old new : Layout) (l : Leaving) (budget : ℕ) : Type 0 where
   pub run : HasRemoved (stood old) old.corner l budget new.corner
   pub reached : IsReached new.problem new.corner new.values

@@ -22,19 +22,19 @@ ghost use Rattle.scenes.specs.Kept.{no_layout};
 
 use crate::limits::FIRST_BUDGET;
 use crate::scene::frames::{frame_of, place_of};
-use crate::scene::past::Past;
+use crate::scene::past::{Past, Setting};
 use cert_core::Best;
 use constraint_compile::Suggestion;
 use diagnosis::{Diagnosis, Stopped, diagnose};
 use frac_core::{Frac, OutOfMemory};
 use held_items::{
-    EARLIER, FIRST_FREE_ROW, Item, WindowSize, has_group, has_size, is_near_size, line_count,
-    size_of, structural_rows, suggestion_of, view_attributes,
+    EARLIER, FIRST_FREE_ROW, IntrinsicSize, Item, WindowSize, has_group, has_size, intrinsic_of,
+    is_near_size, line_count, size_of, structural_rows, suggestion_of, view_attributes,
 };
 use layout_solver::Engine;
 use name_tables::Metrics;
 use problem_core::Row;
-use script_text::AttrWord;
+use script_text::{AttrWord, Direction};
 use std::alloc::Global;
 use std::collections::VecDeque;
 use std::marker::Model;
@@ -48,7 +48,7 @@ pub struct Scene {
     tree: Tree,
     metrics: Metrics,
     items: VersionList<Item>,
-    next_row: u32,
+    setting: Setting,
     engine: Engine,
     // What each earlier scene has of its own, the latest first.
     pasts: VecDeque<Past>,
@@ -64,10 +64,10 @@ impl Model for Scene {
 
     ghost Value = { History };
 
-    ghost view = { λ s. history_at s.tree s.metrics s.items s.next_row s.engine s.pasts.items };
+    ghost view = { λ s. history_at s.tree s.metrics s.items s.setting s.engine s.pasts.items };
 
     ghost invariant = { λ s. IsKeptHistory
-        (history_at s.tree s.metrics s.items s.next_row s.engine s.pasts.items)
+        (history_at s.tree s.metrics s.items s.setting s.engine s.pasts.items)
         × AreAlike s.items.before s.engine.earlier s.pasts.items
         × (EARLIER < deque_capacity s.pasts) };
 }
@@ -126,7 +126,7 @@ impl Scene {
     ghost use Rattle.diagnosis.specs.Diagnoses.{findings_of};
     ghost use Rattle.scenes.specs.Diagnosing.{AreFindingsOf, IsCertificateOf, IsProbedStop};
     ghost use Rattle.scenes.specs.Frames.{IsFrameAt, IsFrameOf};
-    ghost use Rattle.held_items.specs.Items.{has_size, line_count, suggestion_of};
+    ghost use Rattle.held_items.specs.Items.{has_size, intrinsic_of, line_count, suggestion_of};
     ghost use Rattle.held_items.specs.Leaving.{is_in_group};
     ghost use Rattle.held_items.specs.Moving.{IsFarSize};
     ghost use Rattle.scenes.specs.Scene.{IsFirstCorner, first_scene};
@@ -156,7 +156,10 @@ impl Scene {
             tree,
             metrics,
             items,
-            next_row: FIRST_FREE_ROW,
+            setting: Setting {
+                next_row: FIRST_FREE_ROW,
+                direction: Direction::Ltr,
+            },
             engine,
             pasts,
             alloc,
@@ -206,7 +209,14 @@ impl Scene {
         ensures value { result ≡ self.now.scene.next_row }
         ensures above { 0 < result }
     {
-        self.next_row
+        self.setting.next_row
+    }
+
+    /// The direction in which lines and suggestions that come are meant.
+    pub fn direction(&self) -> Direction
+        ensures { result ≡ self.now.scene.direction }
+    {
+        self.setting.direction
     }
 
     /// The engine: the problem of the rows of all that is held, and its best values.
@@ -283,6 +293,13 @@ impl Scene {
         suggestion_of(self.items.as_slice(), view.0, word)
     }
 
+    /// The size that the view would like, where one is held.
+    pub fn intrinsic(&self, view: ViewId) -> Option<IntrinsicSize>
+        ensures { result ≡ intrinsic_of view.0 self.now.scene.held }
+    {
+        intrinsic_of(self.items.as_slice(), view.0)
+    }
+
     /// All that the layout lacks and leaves open. The scene is as before. A stop comes with the number of the
     /// attribute whose probe stopped.
     pub fn diagnose(&mut self, budget: u64) -> Result<Diagnosis, Stopped>
@@ -294,8 +311,8 @@ impl Scene {
         diagnose(self.alloc, &mut self.engine, budget)
     }
 
-    /// The multipliers that show the values to be best: those of the corner's levels, in the form in which a checker
-    /// reads them.
+    /// The multipliers that show the values to be best: those of the corner's levels, in the form in which a
+    /// checker reads them.
     pub fn certificate(&self) -> Result<Best, OutOfMemory>
         ensures { IfOk result (IsCertificateOf self.now.scene) }
     {
@@ -322,7 +339,7 @@ impl Scene {
         };
         self.items.back();
         self.engine.back();
-        self.next_row = past.next_row;
+        self.setting = past.setting;
         put_own(past.tree, &mut self.tree);
         put_own(past.metrics, &mut self.metrics);
     }

@@ -10,10 +10,13 @@ use Rattle.span_text.proofs.TokensLemmas.{end_lives, name_lives, number_lives, w
 use Rattle.span_text.proofs.Offsets.{answers_ok, answers_err, stops_leaves}
 use Rattle.script_text.specs.Meaning.{Meaning}
 use Rattle.script_text.specs.Meaning as mean
-use Rattle.script_text.specs.Grammar.{decimal, is_any, Apart, Arguments, Any, LineOf, Line, all_words}
+use Rattle.script_text.specs.Grammar.{decimal, is_any, Apart, Arguments, Any, LineOf, Line, words_of, first_words, new_words}
 use Rattle.script_text.specs.LineReading.{is_hash, apart_at, arguments_at, command_at, content_at, line_at}
 use Rattle.script_text.specs.declared.words.Keyword.{Keyword}
 use Rattle.script_text.specs.declared.words.Keyword.TheVariants as key
+use Rattle.script_text.specs.declared.words.Version.{Version}
+use Rattle.script_text.specs.declared.words.Version.TheVariants as version
+use Rattle.script_text.proofs.SizeLemmas.{direction_lives, direction_answers, size_lives, size_answers}
 use Rattle.script_text.proofs.Tables.{IsTable, table_answers}
 use Rattle.script_text.proofs.ArgumentLemmas.{bare_answers, window_answers, budget_answers, named_answers, view_answers, metric_answers}
 use Rattle.script_text.proofs.FormatLemmas.{vfl_lives, vfl_answers}
@@ -27,9 +30,10 @@ pub record AreCommands (words : List (List ℕ × Keyword)) : Type 0 where
   pub inside : table_inside is_any words ≡ true
   pub no_hash : table_apart is_hash words ≡ true
 
-all_commands : AreCommands all_words
-unfolding all_words
-all_commands = record { table = record { full = refl; free = refl; bytes = refl }; inside = refl; no_hash = refl }
+all_commands : (v : Version) → AreCommands (words_of v)
+unfolding first_words new_words
+all_commands version.One = record { table = record { full = refl; free = refl; bytes = refl }; inside = refl; no_hash = refl }
+all_commands version.Two = record { table = record { full = refl; free = refl; bytes = refl }; inside = refl; no_hash = refl }
 
 arguments_lives : (len : ℕ) (k : Keyword) → Lives is_space (Arguments len k)
 arguments_lives len key.View = name_lives is_space refl (λ n. right_lives is_space (Word (codes "in") (Name (λ p. End (mean.View n (Some p))))) (end_lives is_space (mean.View n None)))
@@ -48,6 +52,9 @@ arguments_lives len key.Frames = end_lives is_space mean.Frames
 arguments_lives len key.Rows = end_lives is_space mean.Rows
 arguments_lives len key.Diagnose = end_lives is_space mean.Diagnose
 arguments_lives len key.Certify = end_lives is_space mean.Certify
+arguments_lives len key.Direction = direction_lives len
+arguments_lives len key.Size = size_lives len
+arguments_lives len key.Unsize = name_lives is_space refl (λ n. end_lives is_space (mean.Unsize n))
 
 arguments_answers : (len : ℕ) (k : Keyword) (s : List ℕ) → Answers (Arguments len k) s (arguments_at len k s)
 arguments_answers len key.View s = view_answers len s
@@ -66,6 +73,9 @@ arguments_answers len key.Frames s = bare_answers mean.Frames s
 arguments_answers len key.Rows s = bare_answers mean.Rows s
 arguments_answers len key.Diagnose s = bare_answers mean.Diagnose s
 arguments_answers len key.Certify s = bare_answers mean.Certify s
+arguments_answers len key.Direction s = direction_answers len s
+arguments_answers len key.Size s = size_answers len s
+arguments_answers len key.Unsize s = named_answers mean.Unsize s
 
 any_answers : {A : Type 0} (a : A) (s : List ℕ) → Answers (Any a) s (Ok a)
 any_answers a s = (refl, λ w h. h)
@@ -100,25 +110,25 @@ module _ (words : List (List ℕ × Keyword)) (are : AreCommands words) where
   line_answers s = as_line words s (content_at words (length s) (skip s)) (of_answers (length s) s)
 
 -- what a reader's answer says of the line, by its case
-pub line_ok : (s : List ℕ) (v : Meaning) → line_at all_words s ≡ Ok v → Line all_words s v × ((w : Meaning) → Line all_words s w → w ≡ v)
-line_ok s v e = answers_ok (Line all_words) s (line_at all_words s) v (line_answers all_words all_commands s) e
+pub line_ok : (version : Version) (s : List ℕ) (v : Meaning) → line_at (words_of version) s ≡ Ok v → Line (words_of version) s v × ((w : Meaning) → Line (words_of version) s w → w ≡ v)
+line_ok version s v e = answers_ok (Line (words_of version)) s (line_at (words_of version) s) v (line_answers (words_of version) (all_commands version) s) e
 
-pub line_err : (s : List ℕ) (m : ℕ) → line_at all_words s ≡ Err m → Stops (Line all_words) s m
-line_err s m e = answers_err (Line all_words) s (line_at all_words s) m (line_answers all_words all_commands s) e
+pub line_err : (version : Version) (s : List ℕ) (m : ℕ) → line_at (words_of version) s ≡ Err m → Stops (Line (words_of version)) s m
+line_err version s m e = answers_err (Line (words_of version)) s (line_at (words_of version) s) m (line_answers (words_of version) (all_commands version) s) e
 
-pub one_reading : (s : List ℕ) (v w : Meaning) → Line all_words s v → Line all_words s w → v ≡ w
-one_reading s v w h i = one_reading_by (line_at all_words s) (line_answers all_words all_commands s)
+pub one_reading : (version : Version) (s : List ℕ) (v w : Meaning) → Line (words_of version) s v → Line (words_of version) s w → v ≡ w
+one_reading version s v w h i = one_reading_by (line_at (words_of version) s) (line_answers (words_of version) (all_commands version) s)
   where
-    one_reading_by : (r : Result Meaning ℕ) → Answers (Line all_words) s r → v ≡ w
+    one_reading_by : (r : Result Meaning ℕ) → Answers (Line (words_of version)) s r → v ≡ w
     one_reading_by (Ok x) a = a.1 v h ∙ sym (a.1 w i)
     one_reading_by (Err m) a = absurd (a.outside v h)
 
-pub one_offset : (s : List ℕ) (m n : ℕ) → LeavesAt (Line all_words) s m → LeavesAt (Line all_words) s n → m ≡ n
-one_offset s m n h i = omega (arith, h.longest n i.within i.begins, i.longest m h.within h.begins)
+pub one_offset : (version : Version) (s : List ℕ) (m n : ℕ) → LeavesAt (Line (words_of version)) s m → LeavesAt (Line (words_of version)) s n → m ≡ n
+one_offset version s m n h i = omega (arith, h.longest n i.within i.begins, i.longest m h.within h.begins)
 
-pub reads_or_leaves : (s : List ℕ) → ((m : Meaning) × Line all_words s m) ⊎ ((at : ℕ) × LeavesAt (Line all_words) s at)
-reads_or_leaves s = reads_or_leaves_by (line_at all_words s) (line_answers all_words all_commands s)
+pub reads_or_leaves : (version : Version) (s : List ℕ) → ((m : Meaning) × Line (words_of version) s m) ⊎ ((at : ℕ) × LeavesAt (Line (words_of version)) s at)
+reads_or_leaves version s = reads_or_leaves_by (line_at (words_of version) s) (line_answers (words_of version) (all_commands version) s)
   where
-    reads_or_leaves_by : (r : Result Meaning ℕ) → Answers (Line all_words) s r → ((m : Meaning) × Line all_words s m) ⊎ ((at : ℕ) × LeavesAt (Line all_words) s at)
+    reads_or_leaves_by : (r : Result Meaning ℕ) → Answers (Line (words_of version)) s r → ((m : Meaning) × Line (words_of version) s m) ⊎ ((at : ℕ) × LeavesAt (Line (words_of version)) s at)
     reads_or_leaves_by (Ok x) a = inl (x, a.0)
-    reads_or_leaves_by (Err m) a = inr (length s - m, stops_leaves (Line all_words) s m a)
+    reads_or_leaves_by (Err m) a = inr (length s - m, stops_leaves (Line (words_of version)) s m a)

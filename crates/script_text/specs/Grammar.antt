@@ -1,6 +1,6 @@
 -- The lines of a script, by the cases of their grammar. What follows a construct is its last argument.
 use Rattle.std.specs.Prelude.{◌≡◌, ℕ, ◌-◌, Bool, true, false, not, List, [], ◌∷◌, ◌++◌, length, Option, Some}
-use Rattle.std.specs.Prelude.{None, codes, pos}
+use Rattle.std.specs.Prelude.{None, codes, pos, Result}
 use Rattle.span_text.specs.Bytes.{at_sign, minus, plus, star}
 use Rattle.span_text.specs.Classes.{is_space}
 use Rattle.span_text.specs.Language.{Rel, End, Lit, One, Not, Or, Words}
@@ -20,16 +20,41 @@ use Rattle.script_text.specs.declared.words.Align.{Align}
 use Rattle.script_text.specs.declared.words.Align.TheVariants as align
 use Rattle.script_text.specs.declared.words.AttrWord.{AttrWord}
 use Rattle.script_text.specs.declared.words.AttrWord.TheVariants as attr
+use Rattle.script_text.specs.declared.words.Direction.{Direction}
+use Rattle.script_text.specs.declared.words.Direction.TheVariants as direction
+use Rattle.script_text.specs.declared.words.Version.{Version}
+use Rattle.script_text.specs.declared.words.Version.TheVariants as version
+use Rattle.span_text.specs.Reading.{either, read_word}
 use Rattle.problem_core.specs.declared.parts.Rel as parts
 
--- the first words of lines
-unfoldable pub all_words : List (List ℕ × Keyword)
-all_words = (codes "view", key.View) ∷ (codes "tree", key.Tree) ∷ (codes "drop", key.Drop)
+-- the first words of lines, in each version
+unfoldable pub first_words : List (List ℕ × Keyword)
+first_words = (codes "view", key.View) ∷ (codes "tree", key.Tree) ∷ (codes "drop", key.Drop)
     ∷ (codes "metric", key.Metric) ∷ (codes "window", key.Window) ∷ (codes "vfl", key.Vfl)
     ∷ (codes "constrain", key.Constrain) ∷ (codes "remove", key.Remove) ∷ (codes "suggest", key.Suggest)
     ∷ (codes "release", key.Release) ∷ (codes "undo", key.Undo) ∷ (codes "budget", key.Budget)
     ∷ (codes "frames", key.Frames) ∷ (codes "rows", key.Rows) ∷ (codes "diagnose", key.Diagnose)
     ∷ (codes "certify", key.Certify) ∷ []
+
+-- those that version 2 has besides
+unfoldable pub new_words : List (List ℕ × Keyword)
+new_words = (codes "direction", key.Direction) ∷ (codes "size", key.Size) ∷ (codes "unsize", key.Unsize)
+    ∷ []
+
+-- the first words of lines in this version
+abbrev pub words_of : Version → List (List ℕ × Keyword)
+words_of version.One = first_words
+words_of version.Two = first_words ++ new_words
+
+-- each word is tried before r
+abbrev pub over : List (List ℕ × Keyword) → List ℕ → Result (Keyword × List ℕ) ℕ
+    → Result (Keyword × List ℕ) ℕ
+over [] s r = r
+over (w ∷ ws) s r = either (read_word w.0 w.1 s) (over ws s r)
+
+-- the directions as they are written
+unfoldable pub directions : List (List ℕ × Direction)
+directions = (codes "ltr", direction.Ltr) ∷ (codes "rtl", direction.Rtl) ∷ []
 
 -- the alignments as they are written
 unfoldable pub alignments : List (List ℕ × Align)
@@ -94,10 +119,17 @@ Expression F = Or (Sign minus (TermText true (λ t. Loop (Behind F) (t ∷ [])))
 abbrev pub Relation : {A : Type 0} → (parts.Rel → Rel A) → Rel A
 Relation F = Words relations (λ r. Blanks (F r))
 
+-- what a priority is: a name or a number
+abbrev pub Ranked : {A : Type 0} → (Option Meant → Rel A) → Rel A
+Ranked F = Or (Name (λ n. F (Some (object.Name n)))) (Number (λ n. F (Some (object.Number (pos n)))))
+
 -- `@` and a name or a number, or no priority
 abbrev pub Priority : {A : Type 0} → (Option Meant → Rel A) → Rel A
-Priority F = Or (Sign at_sign (Or (Name (λ n. F (Some (object.Name n))))
-    (Number (λ n. F (Some (object.Number (pos n))))))) (F None)
+Priority F = Or (Sign at_sign (Ranked F)) (F None)
+
+-- this word and a priority, or neither
+abbrev pub Pull : {A : Type 0} → List ℕ → (Option Meant → Rel A) → Rel A
+Pull w F = Or (Word w (Ranked F)) (F None)
 
 -- `weight` and a whole number, or the weight 1
 abbrev pub Weight : {A : Type 0} → (ℕ → Rel A) → Rel A
@@ -153,6 +185,10 @@ Arguments len key.Frames = End mean.Frames
 Arguments len key.Rows = End mean.Rows
 Arguments len key.Diagnose = End mean.Diagnose
 Arguments len key.Certify = End mean.Certify
+Arguments len key.Direction = Words directions (λ d. Tail (End (mean.Turn d)))
+Arguments len key.Size = Name (λ n. Number (λ w. Number (λ h. Pull (codes "hug") (λ p.
+    Pull (codes "resist") (λ q. End (mean.Size n (decimal false w) (decimal false h) p q))))))
+Arguments len key.Unsize = Name (λ n. End (mean.Unsize n))
 
 -- whatever follows
 abbrev pub Any : {A : Type 0} → A → Rel A
@@ -174,3 +210,7 @@ LineOf words len = Blanks (Or (Lit (codes "#") (Any mean.Nothing))
 -- a line and what it means
 unfoldable pub Line : List (List ℕ × Keyword) → Rel Meaning
 Line words line = LineOf words (length line) line
+
+-- the line with which a script of version 2 begins: the words `layout` and `2`
+unfoldable pub VersionLine : Rel (Unit {0})
+VersionLine = Blanks (Lit (codes "layout") (Apart (Lit (codes "2") (Tail (End tt)))))

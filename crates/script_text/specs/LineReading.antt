@@ -18,7 +18,7 @@ use Rattle.vfl_text.specs.Reading.{format_at, is_at, is_minus}
 use Rattle.script_text.specs.Fractions.{lowest}
 use Rattle.script_text.specs.Meaning.{Operand, Term, Linear, Meaning}
 use Rattle.script_text.specs.Meaning as mean
-use Rattle.script_text.specs.Grammar.{alignments, attributes, decimal, times, linear, is_any}
+use Rattle.script_text.specs.Grammar.{alignments, attributes, decimal, directions, times, linear, is_any}
 use Rattle.problem_core.specs.declared.parts.Rel.{Rel}
 use Rattle.script_text.specs.declared.words.Align.{Align}
 use Rattle.script_text.specs.declared.words.AttrWord.{AttrWord}
@@ -36,6 +36,14 @@ is_i b = b == lower_i
 -- the first byte of `weight`
 abbrev pub is_w : ℕ → Bool
 is_w b = b == lower_w
+
+-- the first byte of `hug`
+abbrev pub is_h : ℕ → Bool
+is_h b = b == 104
+
+-- the first byte of `resist`
+abbrev pub is_r : ℕ → Bool
+is_r b = b == 114
 
 -- the sign in front of a term that is added
 abbrev pub is_plus : ℕ → Bool
@@ -277,6 +285,33 @@ release_at s = do
   _ ← end_at of.1
   Ok (mean.Release of.0.0 of.0.1)
 
+-- what follows the word `direction`
+unfoldable pub direction_at : List ℕ → Result Meaning ℕ
+direction_at s = do
+  to ← tried directions s
+  rest ← tail_at to.1
+  _ ← end_at rest
+  Ok (mean.Turn to.0)
+
+-- `hug` and a priority, or neither
+unfoldable pub hug_at : List ℕ → Result (Option Meant × List ℕ) ℕ
+hug_at s = if starts is_h s then word_at (codes "hug") s >>= object_at else Ok (None, s)
+
+-- `resist` and a priority, or neither
+unfoldable pub resist_at : List ℕ → Result (Option Meant × List ℕ) ℕ
+resist_at s = if starts is_r s then word_at (codes "resist") s >>= object_at else Ok (None, s)
+
+-- what follows the word `size`: a view's name, a width, a height, and perhaps priorities
+unfoldable pub size_at : List ℕ → Result Meaning ℕ
+size_at s = do
+  name ← name_at s
+  width ← number_at name.1
+  height ← number_at width.1
+  hug ← hug_at height.1
+  resist ← resist_at hug.1
+  _ ← end_at resist.1
+  Ok (mean.Size name.0 (decimal false width.0) (decimal false height.0) hug.0 resist.0)
+
 -- what follows the first word of a line of this length
 abbrev pub arguments_at : ℕ → Keyword → List ℕ → Result Meaning ℕ
 arguments_at len key.View s = view_at s
@@ -295,6 +330,9 @@ arguments_at len key.Frames s = bare_at mean.Frames s
 arguments_at len key.Rows s = bare_at mean.Rows s
 arguments_at len key.Diagnose s = bare_at mean.Diagnose s
 arguments_at len key.Certify s = bare_at mean.Certify s
+arguments_at len key.Direction s = direction_at s
+arguments_at len key.Size s = size_at s
+arguments_at len key.Unsize s = named_at mean.Unsize s
 
 -- the text behind the first word and the spaces that follow it
 unfoldable pub apart_at : List ℕ → Result (List ℕ) ℕ
@@ -319,3 +357,13 @@ content_at words len s = if starts is_hash s
 -- what a line means, or how many of its bytes are left where the reading ends
 unfoldable pub line_at : List (List ℕ × Keyword) → List ℕ → Result Meaning ℕ
 line_at words s = content_at words (length s) (skip s)
+
+-- the words `layout` and `2`, and nothing else
+unfoldable pub version_at : List ℕ → Result (Unit {0}) ℕ
+version_at s = do
+  rest ← lit_at (codes "layout") (skip s)
+  text ← apart_at rest
+  more ← lit_at (codes "2") text
+  left ← tail_at more
+  _ ← end_at left
+  Ok tt

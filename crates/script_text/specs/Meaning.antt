@@ -4,6 +4,7 @@ use Rattle.frac_core.specs.Fraction.{Fraction}
 use Rattle.vfl_text.specs.Formats.{FormatMeaning}
 use Rattle.script_text.specs.declared.words.Align.{Align}
 use Rattle.script_text.specs.declared.words.AttrWord.{AttrWord}
+use Rattle.script_text.specs.declared.words.Direction.{Direction}
 use Rattle.problem_core.specs.declared.parts.Rel.{Rel}
 use Rattle.span_text.specs.Objects.{Meant}
 
@@ -47,3 +48,7 @@ pub data Meaning : Type 0 where
   Rows : Meaning
   Diagnose : Meaning
   Certify : Meaning
+  Turn : Direction → Meaning
+  -- a view's width and height, and how it hugs and resists
+  Size : List ℕ → Fraction → Fraction → Option Meant → Option Meant → Meaning
+  Unsize : List ℕ → Meaning

@@ -64,3 +64,7 @@ view command.Frames = mean.Frames
 view command.Rows = mean.Rows
 view command.Diagnose = mean.Diagnose
 view command.Certify = mean.Certify
+view (command.Direction to) = mean.Turn to
+view (command.Size name width height hug resist) =
+    mean.Size name.now width height (object_view hug) (object_view resist)
+view (command.Unsize name) = mean.Unsize name.now

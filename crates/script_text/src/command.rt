@@ -1,10 +1,14 @@
 // What a line says.
-ghost use Rattle.std.specs.Prelude.{◌≡◌};
+ghost use Rattle.std.specs.Prelude.{◌≡◌, IfOk, map};
+ghost use Rattle.script_text.specs.Directions.{line_in, operand_in, term_in};
+ghost use Rattle.script_text.specs.View.{linear_view, operand_view, term_view, terms_view};
 
-use crate::words::{Align, AttrWord};
-use frac_core::Frac;
+use crate::words::{Align, AttrWord, Direction};
+use frac_core::{Frac, OutOfMemory};
 use problem_core::Rel;
 use span_text::Object;
+use std::alloc::Global;
+use std::slice;
 use vfl_text::Format;
 
 /// What a term of an expression is a multiple of.
@@ -25,6 +29,47 @@ pub struct ExprTerm<'a> {
     pub of: Operand<'a>,
 }
 
+// What it is a multiple of, by the word that its attribute has in both directions.
+fn operand_in(of: Operand<'_>, to: Direction) -> Operand<'_>
+    ensures { operand_view result ≡ operand_in to (operand_view of.entry) }
+{
+    match of {
+        Operand::Attr { view, word } => Operand::Attr {
+            view,
+            word: word.turned(to),
+        },
+        other => other,
+    }
+}
+
+impl<'a> ExprTerm<'a> {
+    /// The term that this one means in this direction, by words that mean the same in both.
+    pub fn turned(&self, to: Direction) -> ExprTerm<'a>
+        ensures { term_view result ≡ term_in to (term_view self.now) }
+    {
+        ExprTerm {
+            by: self.by,
+            of: operand_in(self.of, to),
+        }
+    }
+}
+
+// The terms that these mean in this direction.
+fn terms_in<'a>(
+    alloc: Global,
+    terms: &[ExprTerm<'a>],
+    to: Direction,
+) -> Result<Vec<ExprTerm<'a>>, OutOfMemory>
+    ensures { IfOk result (λ out. terms_view out.items ≡ map (term_in to) (terms_view terms.now)) }
+{
+    let mut out = Vec::with_capacity(alloc, terms.len())?;
+    for term in terms {
+        let turned = term.turned(to);
+        out.extend_from_slice(slice::from_ref(&turned))?;
+    }
+    Ok(out)
+}
+
 /// A linear constraint. The terms of both sides stand in the order in which they were written; where no
 /// weight was written, the weight is 1.
 #[derive(Drop)]
@@ -37,6 +82,21 @@ pub struct Linear<'a> {
 }
 
 impl<'a> Linear<'a> {
+    /// The constraint that this one means in this direction, by words that mean the same in both.
+    pub fn turned(&self, alloc: Global, to: Direction) -> Result<Linear<'a>, OutOfMemory>
+        ensures { IfOk result (λ line. linear_view line ≡ line_in to (linear_view self.now)) }
+    {
+        let left = terms_in(alloc, &self.left, to)?;
+        let right = terms_in(alloc, &self.right, to)?;
+        Ok(Linear {
+            left,
+            rel: self.rel,
+            right,
+            priority: self.priority,
+            weight: self.weight,
+        })
+    }
+
     /// The terms of the left side.
     pub fn left(&self) -> &[ExprTerm<'a>]
         ensures { result.now ≡ self.now.left.items }
@@ -116,4 +176,21 @@ pub enum Command<'a> {
     Diagnose,
     /// The values and what shows that they are the best are to be told.
     Certify,
+    /// Lines and suggestions that come are meant in this direction.
+    Direction {
+        to: Direction,
+    },
+    /// A view would like to have this size. How hard it hugs is the priority of not being larger, how hard it
+    /// resists that of not being smaller.
+    Size {
+        name: &'a str,
+        width: Frac,
+        height: Frac,
+        hug: Option<Object<'a>>,
+        resist: Option<Object<'a>>,
+    },
+    /// A size that is to leave.
+    Unsize {
+        name: &'a str,
+    },
 }

@@ -1,7 +1,7 @@
 //! The lines of a script and their readings.
 //!
-//! A line is blank, a comment (`#` and any bytes), or one of these commands, in which `?` stands behind what
-//! may be left out:
+//! A script is of version 1, or of version 2, which has more commands ([`Version`]). A line is blank, a
+//! comment (`#` and any bytes), or one of these commands, in which `?` stands behind what may be left out:
 //!
 //! ```text
 //! view NAME (in NAME)?
@@ -22,8 +22,16 @@
 //! certify
 //! ```
 //!
-//! [`read_line`] gives the one reading of a line, whose names are slices of it, or the place where it leaves
-//! the grammar:
+//! A line of version 2 may be one of these besides:
+//!
+//! ```text
+//! direction (ltr | rtl)
+//! size NAME NUMBER NUMBER (hug PRIORITY)? (resist PRIORITY)?
+//! unsize NAME
+//! ```
+//!
+//! [`read_line_in`] gives the one reading of a line of a version, whose names are slices of it, or the place
+//! where it leaves the grammar; [`read_line`] is its case of version 1:
 //!
 //! ```
 //! read_line(alloc, b"metric gap 8")?            // Command::Metric: the name `gap`, the value 8
@@ -42,28 +50,35 @@
 //! would follow another, and behind the first word where more follows. The text of a tree begins at the first
 //! byte behind these and is all that follows, whatever its bytes; what it says isn't read here.
 //!
-//! What [`read_line`] keeps: a line has a reading or a place where it leaves the grammar
+//! A script of version 2 begins with the words `layout` and `2` in a line of their own, which
+//! [`is_version_line`] knows; that line is in neither grammar.
+//!
+//! What [`read_line_in`] keeps: a line has a reading or a place where it leaves the grammar
 //! ([`line_reads_or_leaves`]), one of these and no other ([`reading_is_unique`], [`offset_is_unique`]).
 //!
 //! In reading order: `words` (the words of the grammar), `command` (what a line says), `fractions` (numbers
-//! and ratios as fractions), `terms` and `sums` (expressions), `constraint`, `formats` and `suggestions`
-//! (the lines of `constrain`, `vfl`, `suggest` and `release`), `lines` (all others, and [`read_line`]),
-//! `laws`.
+//! and ratios as fractions), `terms` and `sums` (expressions), `constraint`, `formats`, `suggestions`,
+//! `directions` and `sizes` (the lines of `constrain`, `vfl`, `suggest`, `release`, `direction` and `size`),
+//! `lines` (all others, and [`read_line_in`]), `versions` (how a script of version 2 begins), `laws`.
 #![tactic(auto)]
 
 mod command;
 mod constraint;
+mod directions;
 mod formats;
 mod fractions;
 mod laws;
 mod lines;
+mod sizes;
 mod suggestions;
 mod sums;
 mod terms;
+mod versions;
 mod words;
 
 pub use command::{Command, ExprTerm, Linear, Operand};
 pub use fractions::signed_number;
 pub use laws::{line_reads_or_leaves, offset_is_unique, reading_is_unique};
-pub use lines::read_line;
-pub use words::{Align, AttrWord};
+pub use lines::{read_line, read_line_in};
+pub use versions::is_version_line;
+pub use words::{Align, AttrWord, Direction, Version};

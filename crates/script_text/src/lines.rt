@@ -1,7 +1,8 @@
 // The readers of lines.
 ghost use Rattle.std.specs.Prelude.{◌≡◌, IfErr, IfOk};
 ghost use Rattle.span_text.specs.GivesOrMemory.{GivesOrMemory};
-ghost use Rattle.script_text.specs.Grammar.{Line, all_words};
+ghost use Rattle.script_text.specs.Grammar.{Line, words_of};
+ghost use Rattle.script_text.specs.declared.words.Version.TheVariants as version_type;
 ghost use Rattle.script_text.specs.Meaning.{Meaning};
 ghost use Rattle.script_text.specs.Meaning as mean;
 ghost use Rattle.script_text.specs.LineReading.{view_at, tree_at, named_at, metric_at, window_at, budget_at};
@@ -13,10 +14,12 @@ ghost use Rattle.script_text.specs.View.{view};
 
 use crate::command::Command;
 use crate::constraint::constrain;
+use crate::directions::direction;
 use crate::formats::vfl;
 use crate::fractions::signed_number;
+use crate::sizes::size;
 use crate::suggestions::{release, suggest};
-use crate::words::{Keyword, first_word};
+use crate::words::{Keyword, Version, first_word};
 use frac_core::Stop;
 use span_text::{PartStop, SyntaxAt, names, numbers, pieces};
 use std::alloc::Global;
@@ -67,6 +70,15 @@ fn remove_line(text: &[u8]) -> Result<Command<'_>, PartStop>
     let (group, text) = names::name(text)?;
     pieces::end(text)?;
     Ok(Command::Remove { group })
+}
+
+#[tactic(auto, unfolding(crate::specs::LineReading::named_at))]
+fn unsize_line(text: &[u8]) -> Result<Command<'_>, PartStop>
+    ensures { GivesOrMemory view result (named_at mean.Unsize text.now) }
+{
+    let (name, text) = names::name(text)?;
+    pieces::end(text)?;
+    Ok(Command::Unsize { name })
 }
 
 // The value of the metric of this name.
@@ -188,12 +200,15 @@ fn arguments(
         Keyword::Rows => rows_line(text),
         Keyword::Diagnose => diagnose_line(text),
         Keyword::Certify => certify_line(text),
+        Keyword::Direction => direction(text),
+        Keyword::Size => size(text),
+        Keyword::Unsize => unsize_line(text),
     }
 }
 
-// The text behind the first word and the spaces that follow it.
+/// The text behind the first word and the spaces that follow it.
 #[tactic(auto, unfolding(crate::specs::LineReading::apart_at))]
-fn apart(text: &[u8]) -> Result<&[u8], usize>
+pub(crate) fn apart(text: &[u8]) -> Result<&[u8], usize>
     ensures { Gives (λ t. t.now) result (apart_at text.now) }
 {
     match text {
@@ -204,18 +219,28 @@ fn apart(text: &[u8]) -> Result<&[u8], usize>
 
 // A command, in a line of this length.
 #[tactic(auto, unfolding(crate::specs::LineReading::command_at))]
-fn command(alloc: Global, len: usize, text: &[u8]) -> Result<Command<'_>, PartStop>
-    ensures { GivesOrMemory view result (command_at all_words len text.now) }
+fn command(
+    alloc: Global,
+    len: usize,
+    text: &[u8],
+    version: Version,
+) -> Result<Command<'_>, PartStop>
+    ensures { GivesOrMemory view result (command_at (words_of version) len text.now) }
 {
-    let (word, text) = first_word(text)?;
+    let (word, text) = first_word(text, version)?;
     let text = apart(text)?;
     arguments(alloc, len, word, text)
 }
 
 // A line of this length behind the spaces in front of it.
 #[tactic(auto, unfolding(crate::specs::LineReading::content_at))]
-fn content(alloc: Global, len: usize, text: &[u8]) -> Result<Command<'_>, PartStop>
-    ensures { GivesOrMemory view result (content_at all_words len text.now) }
+fn content(
+    alloc: Global,
+    len: usize,
+    text: &[u8],
+    version: Version,
+) -> Result<Command<'_>, PartStop>
+    ensures { GivesOrMemory view result (content_at (words_of version) len text.now) }
 {
     if pieces::begins(text, b'#') {
         pieces::literal(b"#", text)?;
@@ -224,29 +249,44 @@ fn content(alloc: Global, len: usize, text: &[u8]) -> Result<Command<'_>, PartSt
     if text.is_empty() {
         blank_line(text)
     } else {
-        command(alloc, len, text)
+        command(alloc, len, text, version)
     }
 }
 
 // What a line says.
 #[tactic(auto, unfolding(crate::specs::LineReading::line_at))]
-fn any_line(alloc: Global, line: &[u8]) -> Result<Command<'_>, PartStop>
-    ensures { GivesOrMemory view result (line_at all_words line.now) }
+fn any_line(alloc: Global, line: &[u8], version: Version) -> Result<Command<'_>, PartStop>
+    ensures { GivesOrMemory view result (line_at (words_of version) line.now) }
 {
-    content(alloc, line.len(), pieces::skip(line))
+    content(alloc, line.len(), pieces::skip(line), version)
 }
 
-/// The one reading of a line by the grammar of lines. A line of the grammar is never refused as syntax; for
-/// any other the refusal has the length of its longest prefix that is a prefix of some line of the grammar.
-/// The line's bytes need not be a text.
-pub fn read_line(alloc: Global, line: &[u8]) -> Result<Command<'_>, Stop<SyntaxAt>>
-    ensures sound { IfOk result (λ command. Line all_words line.now (view command)) }
-    ensures one { (m : Meaning) → Line all_words line.now m → IfOk result (λ command. view command ≡ m) }
-    ensures offset { IfErr result (IsStopOf (Line all_words) line.now) }
+/// The one reading of a line by the grammar of this version. A line of the grammar is never refused as
+/// syntax; for any other the refusal has the length of its longest prefix that is a prefix of some line of
+/// the grammar. The line's bytes need not be a text.
+pub fn read_line_in(
+    alloc: Global,
+    line: &[u8],
+    version: Version,
+) -> Result<Command<'_>, Stop<SyntaxAt>>
+    ensures sound { IfOk result (λ command. Line (words_of version) line.now (view command)) }
+    ensures one { (m : Meaning) → Line (words_of version) line.now m
+        → IfOk result (λ command. view command ≡ m) }
+    ensures offset { IfErr result (IsStopOf (Line (words_of version)) line.now) }
 {
-    match any_line(alloc, line) {
+    match any_line(alloc, line, version) {
         Ok(command) => Ok(command),
         Err(PartStop::Left(left)) => Err(Stop::Refused(SyntaxAt(line.len() - left))),
         Err(PartStop::OutOfMemory) => Err(Stop::OutOfMemory),
     }
+}
+
+/// The one reading of a line of version 1.
+pub fn read_line(alloc: Global, line: &[u8]) -> Result<Command<'_>, Stop<SyntaxAt>>
+    ensures sound { IfOk result (λ command. Line (words_of version_type.One) line.now (view command)) }
+    ensures one { (m : Meaning) → Line (words_of version_type.One) line.now m
+        → IfOk result (λ command. view command ≡ m) }
+    ensures offset { IfErr result (IsStopOf (Line (words_of version_type.One)) line.now) }
+{
+    read_line_in(alloc, line, Version::One)
 }

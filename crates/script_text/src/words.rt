@@ -1,8 +1,12 @@
 // The words of the grammar that stand in tables.
-ghost use Rattle.std.specs.Prelude.{◌≡◌};
+ghost use Rattle.std.specs.Prelude.{◌≡◌, ℕ, List};
+ghost use Rattle.std.specs.declared.result.Result.{Result};
 ghost use Rattle.span_text.specs.Gives.{Gives};
 ghost use Rattle.span_text.specs.Reading.{tried};
-ghost use Rattle.script_text.specs.Grammar.{all_words, alignments, attributes, word_text};
+ghost use Rattle.script_text.specs.Directions.{leading, trailing, turned};
+ghost use Rattle.script_text.specs.Grammar.{alignments, attributes, directions, first_words, new_words, over};
+ghost use Rattle.script_text.specs.Grammar.{word_text, words_of};
+ghost use Rattle.script_text.specs.declared.words.Keyword as keyword_type;
 
 use span_text::pieces::or_else;
 
@@ -25,6 +29,23 @@ pub enum Keyword {
     Rows,
     Diagnose,
     Certify,
+    Direction,
+    Size,
+    Unsize,
+}
+
+/// The version of a script, which says what commands there are.
+#[derive(Clone, Copy)]
+pub enum Version {
+    One,
+    Two,
+}
+
+/// The side from which views stand one behind the other, as a text is read: from the left, or from the right.
+#[derive(Clone, Copy)]
+pub enum Direction {
+    Ltr,
+    Rtl,
 }
 
 /// The edges and middles that an alignment may name.
@@ -53,7 +74,39 @@ pub enum AttrWord {
     Trailing,
 }
 
+// The edge at which a text begins.
+fn leading(to: Direction) -> AttrWord
+    ensures { result ≡ leading to }
+{
+    match to {
+        Direction::Ltr => AttrWord::Left,
+        Direction::Rtl => AttrWord::Right,
+    }
+}
+
+// The edge at which a text ends.
+fn trailing(to: Direction) -> AttrWord
+    ensures { result ≡ trailing to }
+{
+    match to {
+        Direction::Ltr => AttrWord::Right,
+        Direction::Rtl => AttrWord::Left,
+    }
+}
+
 impl AttrWord {
+    /// The same attribute in this direction, by the word that it has in both: `leading` and `trailing` are
+    /// left or right.
+    pub fn turned(self, to: Direction) -> AttrWord
+        ensures { result ≡ turned to self }
+    {
+        match self {
+            AttrWord::Leading => leading(to),
+            AttrWord::Trailing => trailing(to),
+            word => word,
+        }
+    }
+
     /// The word as it is written.
     pub fn text(self) -> &'static str
         ensures { result.now ≡ word_text self }
@@ -73,11 +126,15 @@ impl AttrWord {
     }
 }
 
-/// The first word of a line and the text at once behind it.
-pub fn first_word(text: &[u8]) -> Result<(Keyword, &[u8]), usize>
-    ensures { Gives (λ p. (p.0, p.1.now)) result (tried all_words text.now) }
+// A first word that each version has, and the text at once behind it; or what the other words answer.
+fn old_word<'a>(
+    text: &'a [u8],
+    other: Result<(Keyword, &'a [u8]), usize>,
+) -> Result<(Keyword, &'a [u8]), usize>
+    ensures { (r : Result (keyword_type.Keyword × List ℕ) ℕ) → Gives (λ p. (p.0, p.1.now)) other.entry r
+        → Gives (λ p. (p.0, p.1.now)) result (over first_words text.now r) }
 {
-    let found = or_else(b"certify", Keyword::Certify, text, Err(text.len()));
+    let found = or_else(b"certify", Keyword::Certify, text, other);
     let found = or_else(b"diagnose", Keyword::Diagnose, text, found);
     let found = or_else(b"rows", Keyword::Rows, text, found);
     let found = or_else(b"frames", Keyword::Frames, text, found);
@@ -93,6 +150,33 @@ pub fn first_word(text: &[u8]) -> Result<(Keyword, &[u8]), usize>
     let found = or_else(b"drop", Keyword::Drop, text, found);
     let found = or_else(b"tree", Keyword::Tree, text, found);
     or_else(b"view", Keyword::View, text, found)
+}
+
+// A first word that version 2 has besides, and the text at once behind it.
+fn new_word(text: &[u8]) -> Result<(Keyword, &[u8]), usize>
+    ensures { Gives (λ p. (p.0, p.1.now)) result (tried new_words text.now) }
+{
+    let found = or_else(b"unsize", Keyword::Unsize, text, Err(text.len()));
+    let found = or_else(b"size", Keyword::Size, text, found);
+    or_else(b"direction", Keyword::Direction, text, found)
+}
+
+/// The first word of a line of this version, and the text at once behind it.
+pub fn first_word(text: &[u8], version: Version) -> Result<(Keyword, &[u8]), usize>
+    ensures { Gives (λ p. (p.0, p.1.now)) result (tried (words_of version) text.now) }
+{
+    match version {
+        Version::One => old_word(text, Err(text.len())),
+        Version::Two => old_word(text, new_word(text)),
+    }
+}
+
+/// The direction's word and the text at once behind it.
+pub fn direction_word(text: &[u8]) -> Result<(Direction, &[u8]), usize>
+    ensures { Gives (λ p. (p.0, p.1.now)) result (tried directions text.now) }
+{
+    let found = or_else(b"rtl", Direction::Rtl, text, Err(text.len()));
+    or_else(b"ltr", Direction::Ltr, text, found)
 }
 
 /// The attribute's word and the text at once behind it.

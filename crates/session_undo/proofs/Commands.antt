@@ -6,6 +6,7 @@ pub mod Drafts
 pub mod LeavingSteps
 pub mod LineStops
 pub mod Rooms
+pub mod SizeSteps
 pub mod Steps
 pub mod SuggestionSteps
 pub mod TreeChains

@@ -1,6 +1,6 @@
 -- Parts of the steps.
-use Rattle.std.specs.Prelude.{◌≡◌, ◌≢◌, ℕ, ◌*◌, ◌<◌, ◌≤◌, false, List, [], length, Some, All, IsSome, Option}
-use Rattle.std.specs.Prelude.{None}
+use Rattle.std.specs.Prelude.{◌≡◌, ◌≢◌, ◌⊎◌, ℕ, ◌*◌, ◌<◌, ◌≤◌, false, List, [], length, Some, All}
+use Rattle.std.specs.Prelude.{IsSome, None, Option}
 use Rattle.span_text.specs.Objects.{Meant}
 use Rattle.script_text.specs.declared.words.AttrWord.{AttrWord}
 use Rattle.name_tables.specs.declared.stops.LimitWord.{LimitWord}
@@ -22,7 +22,11 @@ use Rattle.compile_parts.specs.Fractions.{negated, IsConstant, IsSmallConstant}
 use Rattle.constraint_compile.specs.Suggestions.{scale_of, suggested_priority}
 use Rattle.constraint_compile.specs.declared.suggestion.Suggestion.{Suggestion}
 use Rattle.name_tables.specs.declared.stops.TheConstants.{NAME_LIMIT}
+use Rattle.held_items.specs.declared.item.intrinsic.IntrinsicSize.{IntrinsicSize}
+use Rattle.held_items.specs.declared.item.intrinsic.NewIntrinsic.{NewIntrinsic}
+use Rattle.held_items.specs.declared.item.intrinsic.NewIntrinsic.TheVariants as wished
 use Rattle.held_items.specs.declared.item.suggesting.NewSuggestion.{NewSuggestion}
+use Rattle.session_undo.specs.declared.changes.Ranks.{Ranks}
 use Rattle.compile_parts.specs.declared.stops.CompileStop.{CompileStop}
 use Rattle.cert_core.specs.declared.stops.RunStop.{RunStop}
 use Rattle.layout_solver.specs.declared.engine.Change.{Change}
@@ -31,14 +35,15 @@ use Rattle.std.specs.declared.result.Result.TheVariants.{Ok, Err}
 use Rattle.session_undo.specs.declared.reply.StopPlace.{StopPlace}
 use Rattle.layout_solver.specs.declared.removing.RemoveStop.{RemoveStop}
 use Rattle.session_undo.specs.declared.reply.Refusal.{Refusal}
-use Rattle.held_items.specs.declared.row_numbers.TheConstants.{SIZE_ROWS, VIEW_ROWS}
+use Rattle.held_items.specs.declared.row_numbers.TheConstants.{INTRINSIC_ROWS, SIZE_ROWS, VIEW_ROWS}
 use Rattle.held_items.specs.Attributes.{IsNextLine}
-use Rattle.held_items.specs.Items.{has_size, suggestion_of}
+use Rattle.held_items.specs.Items.{has_size, intrinsic_of, suggestion_of}
 use Rattle.scenes.specs.Moving.{AreChangesFor}
 use Rattle.session_undo.specs.Replies.{Reply, Unknown, Taken, Limit, Kind, place_of}
 use Rattle.session_undo.specs.State.{State}
 use Rattle.session_undo.specs.Machine.{still_place, Unless, Keeps, IsCrowded, HasAllLines, IsTaken, IsDeep}
-use Rattle.session_undo.specs.Machine.{AreTooMany, HasAllViews, Suggests, UnlessRankless}
+use Rattle.session_undo.specs.Machine.{AreKnownPulls, AreTooMany, HasAllViews, Sizes, Suggests}
+use Rattle.session_undo.specs.Machine.{UnlessPullsRankless, UnlessRankless, hugging, intrinsic_at, resisting}
 use Rattle.held_items.specs.Moving.{FitsAfter, IsFarSize}
 use Rattle.name_tables.specs.declared.stops.LimitWord.TheVariants as word
 use Rattle.view_tree.specs.Views as tree
@@ -184,6 +189,7 @@ pub record IsFirstSuggestion (old : State) (name : List ℕ) (attr : AttrWord) (
   pub none : suggestion_of view.id attr old.scene.held ≡ None
   pub room : IsCrowded old 1 → ⊥
   pub is : IsSuggestionOf view.id attr value s
+  pub direction : s.direction ≡ old.scene.direction
   pub row : s.row ≡ old.scene.next_row
 
 -- one that is held may have another constant
@@ -223,6 +229,72 @@ pub record IsHeldSuggestion (scene : Scene) (name : List ℕ) (attr : AttrWord) 
   pub found : view_named scene.tree.views name ≡ Some view
   pub same : id ≡ view.id
   pub held : suggestion_of view.id attr scene.held ≡ None → ⊥
+
+-- ---- sizes of views
+
+-- these are the ranks that the priorities stand for
+abbrev pub AreRanks : Scene → Option Meant → Option Meant → Ranks → Type 0
+AreRanks scene hug resist ranks = IsRank scene.tree.views scene.metrics (hugging hug) ranks.hug
+    × IsRank scene.tree.views scene.metrics (resisting resist) ranks.resist
+
+-- the view of this name is there, the priorities' names are known, and these are their ranks
+pub record IsPulled (old : State) (name : List ℕ) (hug resist : Option Meant) (view : LiveView)
+    (ranks : Ranks) : Type 0 where
+  pub found : view_named old.scene.tree.views name ≡ Some view
+  pub known : AreKnownPulls old.scene hug resist
+  pub are : AreRanks old.scene hug resist ranks
+
+-- the first size of a view may be held
+pub record IsFirstIntrinsic (old : State) (name : List ℕ) (width height : Fraction)
+    (hug resist : Option Meant) (s : IntrinsicSize) : Type 0 where
+  pub view : LiveView
+  pub ranks : Ranks
+  pub pulled : IsPulled old name hug resist view ranks
+  pub none : intrinsic_of view.id old.scene.held ≡ None
+  pub room : IsCrowded old INTRINSIC_ROWS → ⊥
+  pub is : s ≡ intrinsic_at old.scene.next_row view.id width height ranks.hug ranks.resist
+
+-- one that is held may have another width and height
+pub record IsLaterIntrinsic (old : State) (name : List ℕ) (width height : Fraction)
+    (hug resist : Option Meant) (s : IntrinsicSize) : Type 0 where
+  pub view : LiveView
+  pub ranks : Ranks
+  pub pulled : IsPulled old name hug resist view ranks
+  pub before : IntrinsicSize
+  pub some : intrinsic_of view.id old.scene.held ≡ Some before
+  pub plain : IsSome hug ⊎ IsSome resist → ⊥
+  pub is : s ≡ record before { width = width; height = height }
+  pub near : FitsAfter before.width width × FitsAfter before.height height
+
+-- either of them
+abbrev pub IsFreeIntrinsic : State → List ℕ → Fraction → Fraction → Option Meant → Option Meant → NewIntrinsic
+    → Type 0
+IsFreeIntrinsic old name width height hug resist (wished.First s) =
+    IsFirstIntrinsic old name width height hug resist s
+IsFreeIntrinsic old name width height hug resist (wished.Again s) =
+    IsLaterIntrinsic old name width height hug resist s
+
+-- either of them, whatever the name of the view of this number
+abbrev pub IsIntrinsicFor : State → ℕ → Fraction → Fraction → Option Meant → Option Meant → NewIntrinsic
+    → Type 0
+IsIntrinsicFor old view width height hug resist size =
+    (name : List ℕ) (v : LiveView) → view_named old.scene.tree.views name ≡ Some v → v.id ≡ view
+    → IsFreeIntrinsic old name width height hug resist size
+
+-- why neither may be held
+abbrev pub SizeStep : State → ℕ → Fraction → Fraction → Option Meant → Option Meant → Reply → State → Type 0
+SizeStep old view width height hug resist =
+    UnlessPullsRankless old hug resist (λ reply new.
+    (ranks : Ranks) × AreRanks old.scene hug resist ranks
+    × Sizes old view width height hug resist ranks.hug ranks.resist (intrinsic_of view old.scene.held) NoEnd
+    reply new)
+
+-- the view of this name, of which a size is held
+pub record IsHeldIntrinsic (scene : Scene) (name : List ℕ) (id : ℕ) : Type 0 where
+  pub view : LiveView
+  pub found : view_named scene.tree.views name ≡ Some view
+  pub same : id ≡ view.id
+  pub held : intrinsic_of view.id scene.held ≡ None → ⊥
 
 -- ---- lines of groups
 

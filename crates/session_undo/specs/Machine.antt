@@ -21,9 +21,10 @@ use Rattle.layout_solver.specs.declared.removing.RemoveStop.{RemoveStop}
 use Rattle.span_text.specs.Objects.{Meant}
 use Rattle.script_text.specs.declared.words.Align.{Align}
 use Rattle.script_text.specs.declared.words.AttrWord.{AttrWord}
+use Rattle.script_text.specs.Directions.{line_in}
 use Rattle.script_text.specs.Meaning.{Meaning, Linear}
 use Rattle.compile_parts.specs.Meaning.{MetricList, IsRank, unknown_object}
-use Rattle.constraint_compile.specs.Suggestions.{scale_of, suggested_priority}
+use Rattle.constraint_compile.specs.Suggestions.{priority_or, scale_of, suggested_priority}
 use Rattle.constraint_compile.specs.declared.suggestion.Suggestion.{Suggestion}
 use Rattle.constraint_compile.specs.Compiled.{CompiledLine}
 use Rattle.compile_parts.specs.Fractions.{negated, IsConstant, IsSmallConstant}
@@ -37,10 +38,14 @@ use Rattle.name_tables.specs.declared.stops.TheConstants.{NAME_LIMIT}
 use Rattle.problem_core.specs.declared.limits.TheConstants.{NUMBER_LIMIT}
 use Rattle.view_tree.specs.declared.limits.TheConstants.{DEPTH_LIMIT, ID_LIMIT}
 use Rattle.session_undo.specs.declared.limits.TheConstants.{BUDGET_LIMIT}
-use Rattle.held_items.specs.declared.row_numbers.TheConstants.{SIZE_ROWS, VIEW_ROWS}
+use Rattle.held_items.specs.declared.item.intrinsic.IntrinsicSize.{IntrinsicSize}
+use Rattle.held_items.specs.declared.item.intrinsic.TheConstants.{USUAL_HUG, USUAL_RESIST}
+use Rattle.held_items.specs.declared.row_numbers.TheConstants.{INTRINSIC_ROWS, SIZE_ROWS, VIEW_ROWS}
 use Rattle.held_items.specs.Items.{IsSmallItem, line_count, has_size, suggestion_of, suggestion_name}
+use Rattle.held_items.specs.Items.{intrinsic_name, intrinsic_of}
 use Rattle.scenes.specs.Scene.{Scene, with_view, with_metric, with_window, with_line, problem_of, with_branch}
-use Rattle.scenes.specs.Scene.{with_earlier, with_suggestion, with_suggested, draft_problem, AreDraftRows}
+use Rattle.scenes.specs.Scene.{with_direction, with_earlier, with_suggestion, with_suggested, draft_problem}
+use Rattle.scenes.specs.Scene.{AreDraftRows, IsBestScene, with_intrinsic, with_preferred}
 use Rattle.session_undo.specs.State.{State}
 use Rattle.session_undo.specs.Replies.{Reply, Done, Nothing, Frames, Rows, Outside, Unknown, Taken, Limit}
 use Rattle.session_undo.specs.Replies.{Kind, Certificate, NoEarlier, Conflict, Overflow, Spent, Place, Step}
@@ -48,7 +53,7 @@ use Rattle.session_undo.specs.Replies.{Still, Diagnosed, NoTarget, Probe}
 use Rattle.diagnosis.specs.Diagnoses.{Findings}
 use Rattle.scenes.specs.Diagnosing.{AreFindingsOf, IsCertificateOf, IsProbedStop}
 use Rattle.held_items.specs.Leaving.{is_in_group}
-use Rattle.scenes.specs.Leaving.{without_group, without_suggestion, without_views}
+use Rattle.scenes.specs.Leaving.{without_group, without_intrinsic, without_suggestion, without_views}
 use Rattle.held_items.specs.Moving.{AreNear, FitsAfter, IsFarSize}
 use Rattle.scenes.specs.Steps.{IsProblemOf, CannotLeave, HasLeft, IsStopped, IsSolved}
 use Rattle.name_tables.specs.declared.stops.LimitWord.TheVariants as word
@@ -110,6 +115,16 @@ SolvesFree old draft reply new =
 -- the draft is solved, or there is no change
 abbrev pub Solves : State → Scene → Reply → State → Type 0
 Solves old draft reply new = Conflicts draft old reply new ⊎ SolvesFree old draft reply new
+
+-- ---- standing
+
+-- the command is accepted, and the scene is this draft, whose rows, values and corner are those before: there
+-- is nothing to solve, since these are the rows of what is held, and the values are the best
+pub record Stands (old : State) (draft : Scene) (reply : Reply) (new : State) : Type 0 where
+  pub done : reply ≡ Done
+  pub rows : AreDraftRows draft draft.rows
+  pub best : IsBestScene draft
+  pub kept : new ≡ record old { scene = draft; earlier = with_earlier old.scene old.earlier }
 
 -- ---- leaving
 
@@ -321,21 +336,22 @@ TriedLine old group count May Is End =
     (UnlessAny (λ limit. May (stop.Limit limit)) Limit old
     (AddsLine old group Is End))))))
 
--- a linear line, which has one row
+-- a linear line, as it is meant in the scene's direction, which has one row
 abbrev pub TriedConstraint : State → List ℕ → Linear → (Scene → Reply → State → Type 0) → Reply → State
     → Type 0
 TriedConstraint old group line =
     TriedLine old group 1
-    (MayStop old.scene.tree.views old.scene.metrics line old.scene.next_row)
-    (IsCompiled old.scene.tree.views old.scene.metrics line old.scene.next_row)
+    (MayStop old.scene.tree.views old.scene.metrics (line_in old.scene.direction line) old.scene.next_row)
+    (IsCompiled old.scene.tree.views old.scene.metrics (line_in old.scene.direction line) old.scene.next_row)
 
--- a format, with so many rows as it asks for
+-- a format in the scene's direction, with so many rows as it asks for
 abbrev pub TriedFormat : State → List ℕ → Option Align → FormatMeaning → (Scene → Reply → State → Type 0)
     → Reply → State → Type 0
 TriedFormat old group align format =
-    TriedLine old group (row_count old.scene.tree.views (parts format align))
-    (MayStopFormat old.scene.tree.views old.scene.metrics format align old.scene.next_row)
-    (IsCompiledFormat old.scene.tree.views old.scene.metrics format align old.scene.next_row)
+    TriedLine old group (row_count old.scene.tree.views (parts format align old.scene.direction))
+    (MayStopFormat old.scene.tree.views old.scene.metrics format align old.scene.direction old.scene.next_row)
+    (IsCompiledFormat old.scene.tree.views old.scene.metrics format align old.scene.direction
+    old.scene.next_row)
 
 -- ---- suggestions
 
@@ -357,6 +373,7 @@ Suggests old view attr value priority rank None End =
       rank = rank;
       view = view;
       word = attr;
+      direction = old.scene.direction;
       constant = c;
     }))))
 Suggests old view attr value priority rank (Some held) End =
@@ -365,12 +382,20 @@ Suggests old view attr value priority rank (Some held) End =
     Unless (FitsAfter held.constant c → ⊥) (Limit word.Constant) old
     (End (with_suggested old.scene view attr c))))
 
+-- where the priority's name is unknown, that; otherwise as F says
+abbrev pub UnlessUnknown : State → Option Meant → (Reply → State → Type 0) → Reply → State → Type 0
+UnlessUnknown old priority F =
+    UnlessAny (λ name. unknown_object old.scene.tree.views old.scene.metrics priority ≡ Some name) Unknown
+    old F
+
+-- the priority stands for no rank
+abbrev pub IsRankless : Scene → Option Meant → Type 0
+IsRankless scene priority = (rank : ℕ) → IsRank scene.tree.views scene.metrics priority rank → ⊥
+
 -- where the priority stands for no rank, why; otherwise as F says
 abbrev pub UnlessRankless : State → Option Meant → (Reply → State → Type 0) → Reply → State → Type 0
 UnlessRankless old priority F =
-    UnlessAny (λ name. unknown_object old.scene.tree.views old.scene.metrics priority ≡ Some name) Unknown old
-    (Unless ((rank : ℕ) → IsRank old.scene.tree.views old.scene.metrics priority rank → ⊥)
-    (Kind kind.Priority) old F)
+    UnlessUnknown old priority (Unless (IsRankless old.scene priority) (Kind kind.Priority) old F)
 
 -- the view of this name, and the rank that the priority stands for
 abbrev pub SuggestsFor : State → List ℕ → AttrWord → Fraction → Option Meant
@@ -387,7 +412,82 @@ TriedSuggest old name attr value priority End =
     Unless (view_named old.scene.tree.views name ≡ None) (Unknown name) old
     (UnlessRankless old (suggested_priority priority) (SuggestsFor old name attr value priority End))
 
+-- ---- sizes of views
+
+-- the priorities of a size
+abbrev pub hugging : Option Meant → Option Meant
+hugging priority = priority_or USUAL_HUG priority
+
+abbrev pub resisting : Option Meant → Option Meant
+resisting priority = priority_or USUAL_RESIST priority
+
+-- the names in both are known
+abbrev pub AreKnownPulls : Scene → Option Meant → Option Meant → Type 0
+AreKnownPulls scene hug resist =
+    (unknown_object scene.tree.views scene.metrics (hugging hug) ≡ None)
+    × (unknown_object scene.tree.views scene.metrics (resisting resist) ≡ None)
+
+-- where one of the two stands for no rank, why: an unknown name first; otherwise as F says
+abbrev pub UnlessPullsRankless : State → Option Meant → Option Meant → (Reply → State → Type 0) → Reply
+    → State → Type 0
+UnlessPullsRankless old hug resist F =
+    UnlessUnknown old (hugging hug)
+    (UnlessUnknown old (resisting resist)
+    (Unless (IsRankless old.scene (hugging hug) ⊎ IsRankless old.scene (resisting resist))
+    (Kind kind.Priority) old F))
+
+-- the size of this view, of which the first row has this number
+abbrev pub intrinsic_at : ℕ → ℕ → Fraction → Fraction → ℕ → ℕ → IntrinsicSize
+intrinsic_at first_row view width height hugs resists = record {
+  first_row = first_row;
+  view = view;
+  width = width;
+  height = height;
+  resist = resists;
+  hug = hugs;
+}
+
+-- the first size of a view takes four rows; a later one, which has no priority, is other constants of those
+abbrev pub Sizes : State → ℕ → Fraction → Fraction → Option Meant → Option Meant → ℕ → ℕ
+    → Option IntrinsicSize → (Scene → Reply → State → Type 0) → Reply → State → Type 0
+Sizes old view width height hug resist hugs resists None End =
+    Unless (IsCrowded old INTRINSIC_ROWS) (Limit word.Rows) old
+    (End (with_intrinsic old.scene (intrinsic_at old.scene.next_row view width height hugs resists)))
+Sizes old view width height hug resist hugs resists (Some held) End =
+    Unless (IsSome hug ⊎ IsSome resist) (Kind kind.Sized) old
+    (Unless (FitsAfter held.width width × FitsAfter held.height height → ⊥) (Limit word.Constant) old
+    (End (with_preferred old.scene view width height)))
+
+-- the view of this name, and the ranks that the priorities stand for
+abbrev pub SizesFor : State → List ℕ → Fraction → Fraction → Option Meant → Option Meant
+    → (Scene → Reply → State → Type 0) → Reply → State → Type 0
+SizesFor old name width height hug resist End reply new =
+    (view : LiveView) × (view_named old.scene.tree.views name ≡ Some view) × (hugs resists : ℕ)
+    × IsRank old.scene.tree.views old.scene.metrics (hugging hug) hugs
+    × IsRank old.scene.tree.views old.scene.metrics (resisting resist) resists
+    × Sizes old view.id width height hug resist hugs resists (intrinsic_of view.id old.scene.held) End
+    reply new
+
+-- the size that a view would like, with these priorities or none written
+abbrev pub TriedSize : State → List ℕ → Fraction → Fraction → Option Meant → Option Meant
+    → (Scene → Reply → State → Type 0) → Reply → State → Type 0
+TriedSize old name width height hug resist End =
+    Unless (view_named old.scene.tree.views name ≡ None) (Unknown name) old
+    (UnlessPullsRankless old hug resist (SizesFor old name width height hug resist End))
+
 -- ---- what leaves
+
+-- the view of this name, whose size leaves if one is held
+abbrev pub UnsizesOf : State → List ℕ → (Scene → Reply → State → Type 0) → Reply → State → Type 0
+UnsizesOf old name End reply new =
+    (view : LiveView) × (view_named old.scene.tree.views name ≡ Some view)
+    × Unless (intrinsic_of view.id old.scene.held ≡ None) (Unknown (intrinsic_name name)) old
+    (End (without_intrinsic old.scene view.id)) reply new
+
+-- a view without the size that it would like
+abbrev pub TriedUnsize : State → List ℕ → (Scene → Reply → State → Type 0) → Reply → State → Type 0
+TriedUnsize old name End =
+    Unless (view_named old.scene.tree.views name ≡ None) (Unknown name) old (UnsizesOf old name End)
 
 -- the view of this name, whose suggestion of this attribute leaves if one is held
 abbrev pub ReleasesOf : State → List ℕ → AttrWord → (Scene → Reply → State → Type 0) → Reply → State → Type 0
@@ -468,11 +568,14 @@ Tried old mean.Frames End Other = Other Frames old
 Tried old mean.Rows End Other = Other Rows old
 Tried old mean.Diagnose End Other = End old.scene
 Tried old mean.Certify End Other = Certifies old Other
+Tried old (mean.Turn to) End Other = End (with_direction old.scene to)
+Tried old (mean.Size name width height hug resist) End Other = TriedSize old name width height hug resist End
+Tried old (mean.Unsize name) End Other = TriedUnsize old name End
 
 -- ---- what a line leads to
 
 -- a draft is solved; that of new views, which change no row that is held, and one from which rows have left
--- are in no conflict
+-- are in no conflict; another direction changes no row
 abbrev pub Ends : State → Meaning → Scene → Reply → State → Type 0
 Ends old (mean.View name parent) = SolvesFree old
 Ends old (mean.Tree text start) = SolvesFree old
@@ -491,6 +594,9 @@ Ends old mean.Frames = Solves old
 Ends old mean.Rows = Solves old
 Ends old mean.Diagnose = λ scene. Diagnoses old
 Ends old mean.Certify = Solves old
+Ends old (mean.Turn to) = Stands old
+Ends old (mean.Size name width height hug resist) = Solves old
+Ends old (mean.Unsize name) = LeavesFree old
 
 -- what a line that says this leads to
 abbrev pub MeaningStep : State → Meaning → Reply → State → Type 0

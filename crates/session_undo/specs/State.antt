@@ -6,6 +6,8 @@ use Rattle.held_items.specs.declared.limits.TheConstants.{MOST_ROWS}
 use Rattle.scenes.specs.declared.limits.TheConstants.{FIRST_BUDGET}
 use Rattle.session_undo.specs.declared.limits.TheConstants.{MOST_LINES}
 use Rattle.scenes.specs.Scene.{IsBestScene, IsFirstCorner, first_scene, Scene}
+use Rattle.script_text.specs.declared.words.Version.{Version}
+use Rattle.script_text.specs.declared.words.Version.TheVariants as version
 
 -- how many views, lines of groups and rows there may be
 pub record Limits : Type 0 where
@@ -13,12 +15,14 @@ pub record Limits : Type 0 where
   pub lines : ℕ
   pub rows : ℕ
 
--- the scene, those before it, the latest first, how many exchanges each run may make, and the limits
+-- the scene, those before it, the latest first, how many exchanges each run may make, the limits, and the
+-- version of the script
 pub record State : Type 0 where
   pub scene : Scene
   pub earlier : List Scene
   pub budget : ℕ
   pub limits : Limits
+  pub version : Version
 
 -- the values of the scene, and of all that are kept, are the best
 abbrev pub IsBestState : State → Type 0
@@ -30,11 +34,20 @@ IsBestState s = IsBestScene s.scene × All IsBestScene s.earlier
 abbrev pub first_limits : Limits
 first_limits = record { views = VIEW_LIMIT; lines = MOST_LINES; rows = MOST_ROWS }
 
--- a new session, where the marks inside are these
-abbrev pub first_state : List Mark → State
-first_state corner =
-    record { scene = first_scene corner; earlier = []; budget = FIRST_BUDGET; limits = first_limits }
+-- a new session of this version, where the marks inside are these
+abbrev pub first_state : Version → List Mark → State
+first_state v corner = record {
+  scene = first_scene corner;
+  earlier = [];
+  budget = FIRST_BUDGET;
+  limits = first_limits;
+  version = v;
+}
 
--- the session is new, and its values stand at its corner, which is an end
+-- the session is a new one of this version, and its values stand at its corner, which is an end
+abbrev pub IsFirstOf : Version → State → Type 0
+IsFirstOf v s = IsFirstCorner s.scene.corner × (s ≡ first_state v s.scene.corner)
+
+-- the session is a new one of version 1
 abbrev pub IsFirst : State → Type 0
-IsFirst s = IsFirstCorner s.scene.corner × (s ≡ first_state s.scene.corner)
+IsFirst s = IsFirstOf version.One s

@@ -18,8 +18,8 @@
 //! (`specs/Machine.antt`): which causes refuse a command, in their order, and what scene an accepted one
 //! leads to.
 //!
-//! What solves a draft, and what a problem is of, is the scene's (`scenes`): a session finds the causes against
-//! a command, and tells what the scene's step came to.
+//! What solves a draft, and what a problem is of, is the scene's (`scenes`): a session finds the causes
+//! against a command, and tells what the scene's step came to.
 //!
 //! In reading order: `reply`, `limits`, `changes`, `draft` (what a command asks of the scene), `session`.
 #![tactic(auto)]

@@ -2,27 +2,30 @@
 ghost use Rattle.std.specs.Prelude.{◌≡◌, ◌<◌, ◌≤◌, ◌⊎◌, true, false, length, None};
 ghost use Rattle.std.specs.Prelude.{Option, Some, ℕ, IfOk, IfErr, IfSome, IfNone, OnOk, OnErr, OnSome};
 ghost use Rattle.session_undo.specs.declared.limits.TheConstants.{BUDGET_LIMIT};
-ghost use Rattle.held_items.specs.declared.row_numbers.TheConstants.{SIZE_ROWS};
+ghost use Rattle.held_items.specs.declared.row_numbers.TheConstants.{INTRINSIC_ROWS, SIZE_ROWS};
 
-use crate::changes::{parent_or_window, put_metric};
+use crate::changes::{Pulls, Ranks, later_intrinsic, parent_or_window, put_metric};
 use crate::draft::Draft;
 use crate::limits::{BUDGET_LIMIT, FIRST_LIMITS, Limits};
 use crate::reply::{
     NoEarlier, Refusal, Reply, answer_of, left_answer, probe_refusal, tree_refusal,
 };
-use compile_parts::{CompileStop, KindWord, RankStop};
-use constraint_compile::{Compiled, Suggestion, compile_line, suggested_constant, suggested_rank};
+use compile_parts::{CompileStop, KindWord, resolve_rank};
+use constraint_compile::{
+    Compiled, Suggestion, USUAL_RANK, compile_line, priority_or, suggested_constant,
+};
 use format_compile::{compile_format, format_row_count};
 use frac_core::{Frac, OutOfMemory, Stop};
 use held_items::{
-    NewSuggestion, NewViews, SIZE_ROWS, VIEW_ROWS, WindowSize, fits_after, small_line_rows,
+    INTRINSIC_ROWS, IntrinsicSize, NewIntrinsic, NewSuggestion, NewViews, SIZE_ROWS, USUAL_HUG,
+    USUAL_RESIST, VIEW_ROWS, WindowSize, fits_after, intrinsic_name, small_line_rows,
     suggestion_name,
 };
 use layout_solver::Engine;
 use name_tables::{LimitWord, Metrics, NAME_LIMIT, OwnedName};
 use problem_core::{NUMBER_LIMIT, Problem, Values};
 use scenes::{FIRST_BUDGET, NewLine, NewMetrics, Scene, Update, values_of};
-use script_text::{Align, AttrWord, Command, Linear};
+use script_text::{Align, AttrWord, Command, Linear, Version};
 use span_text::Object;
 use std::alloc::Global;
 use std::marker::Model;
@@ -37,12 +40,13 @@ fn is_no_budget(exchanges: u64) -> bool
     exchanges == 0 || exchanges > BUDGET_LIMIT
 }
 
-/// A scene, how many exchanges each run may make, and how much may be held.
+/// A scene, how many exchanges each run may make, how much may be held, and the version of the script.
 #[derive(Drop)]
 pub struct Session {
     scene: Scene,
     budget: u64,
     limits: Limits,
+    version: Version,
     alloc: Global,
 }
 
@@ -52,12 +56,13 @@ impl Model for Session {
 
     ghost Value = { State };
 
-    ghost view = { λ s. session_at s.scene s.budget s.limits };
+    ghost view = { λ s. session_at s.scene s.budget s.limits s.version };
 
     ghost invariant = { λ s. AreWithin (limits_of s.limits) };
 }
 
 impl Session {
+    ghost use Rattle.script_text.specs.Directions.{line_in};
     ghost use Rattle.script_text.specs.View.{linear_view, view};
     ghost use Rattle.vfl_text.specs.View.{meaning};
     ghost use Rattle.view_tree.specs.JsonStops as json;
@@ -75,7 +80,7 @@ impl Session {
     ghost use Rattle.session_undo.specs.Adding.{IsViewMore, StopStep, SuggestStep, UnlessUnfree, ViewStep};
     ghost use Rattle.scenes.specs.Frames.{IsFrameOf};
     ghost use Rattle.session_undo.specs.Kept.{AreWithin};
-    ghost use Rattle.session_undo.specs.State.{IsFirst};
+    ghost use Rattle.session_undo.specs.State.{IsFirst, IsFirstOf};
     ghost use Rattle.session_undo.specs.Replies.{Accepting, Done, Limit, MayRefuse, Refusing};
     ghost use Rattle.held_items.specs.Items.{has_size};
     ghost use Rattle.session_undo.specs.Machine.{AreTooMany, Certifies, Diagnoses, IsCrowded, IsTaken, Keeps};
@@ -83,28 +88,48 @@ impl Session {
     ghost use Rattle.session_undo.specs.Machine.{TriedBudget, TriedConstraint, TriedDrop, TriedFormat};
     ghost use Rattle.session_undo.specs.Machine.{TriedMetric, TriedRelease, TriedRemove, TriedSuggest};
     ghost use Rattle.session_undo.specs.Machine.{TriedTree, TriedUndo, TriedView, TriedWindow};
-    ghost use Rattle.session_undo.specs.Machine.{UnlessRankless};
+    ghost use Rattle.session_undo.specs.Machine.{AreKnownPulls, IsRankless, Sizes, TriedSize, TriedUnsize};
+    ghost use Rattle.session_undo.specs.Machine.{UnlessPullsRankless, UnlessRankless, UnlessUnknown};
+    ghost use Rattle.session_undo.specs.Machine.{intrinsic_at};
+    ghost use Rattle.session_undo.specs.Adding.{AreRanks, IsFreeIntrinsic, IsHeldIntrinsic, IsIntrinsicFor};
+    ghost use Rattle.session_undo.specs.Adding.{SizeStep};
     ghost use Rattle.scenes.specs.Steps.{IsProblemOf};
     ghost use Rattle.held_items.specs.Moving.{FitsAfter};
     ghost use Rattle.compile_parts.specs.Meaning.{IsRank, unknown_object};
-    ghost use Rattle.constraint_compile.specs.Suggestions.{suggested_priority};
+    ghost use Rattle.constraint_compile.specs.Suggestions.{priority_or, suggested_priority};
     ghost use Rattle.span_text.specs.Objects.{Meant, object_view};
-    ghost use Rattle.session_undo.specs.Asking.{Any, EndsAs, Free, IsDraft, Left, MayTake, Plain, drafted};
+    ghost use Rattle.session_undo.specs.Asking.{Any, EndsAs, Free, IsDraft, Left, MayTake, Plain, Turned};
+    ghost use Rattle.session_undo.specs.Asking.{IsUnwish, IsWish, drafted};
     ghost use Rattle.session_undo.specs.Asking.{kind_for, kind_of};
     ghost use Rattle.held_items.specs.Leaving.{is_in_group};
     ghost use Rattle.std.specs.List.{list_any};
     ghost use Rattle.session_undo.specs.Replies as reply;
 
-    /// The window alone, and a budget of 100,000 exchanges.
+    /// A session of version 1: the window alone, and a budget of 100,000 exchanges.
     pub fn new(alloc: Global) -> Result<Session, OutOfMemory>
         ensures { IfOk result IsFirst }
+    {
+        Session::with_version(alloc, Version::One)
+    }
+
+    /// The window alone, and a budget of 100,000 exchanges, for a script of this version.
+    pub fn with_version(alloc: Global, version: Version) -> Result<Session, OutOfMemory>
+        ensures { IfOk result (IsFirstOf version) }
     {
         Ok(Session {
             scene: Scene::new(alloc)?,
             budget: FIRST_BUDGET,
             limits: FIRST_LIMITS,
+            version,
             alloc,
         })
+    }
+
+    /// The version of the script, by whose grammar lines are to be read.
+    pub fn version(&self) -> Version
+        ensures { result ≡ self.now.version }
+    {
+        self.version
     }
 
     // Whether so many more rows would be too many, or one would have too great a number.
@@ -383,13 +408,14 @@ impl Session {
     fn new_constraint(&self, group: &str, line: &Linear<'_>) -> Result<NewLine, Refusal>
         ensures is { IfOk result
             (λ new. IsCompiled self.now.scene.tree.views self.now.scene.metrics
-            (linear_view line.now) self.now.scene.next_row new.line) }
+            (line_in self.now.scene.direction (linear_view line.now)) self.now.scene.next_row new.line) }
         ensures made { IfOk result (λ new. IsFreeLine self.now group.now new.group new.line new.rows.items) }
         ensures refused { Refusing
             (TriedConstraint self.now group.now (linear_view line.now) NoEnd) self.now result }
     {
         let (tree, metrics) = (self.scene.tree(), self.scene.metrics());
-        match compile_line(self.alloc, tree, metrics, line, self.scene.next_row()) {
+        let (id, direction) = (self.scene.next_row(), self.scene.direction());
+        match compile_line(self.alloc, tree, metrics, line, id, direction) {
             Ok(compiled) => self.new_line(group, compiled),
             Err(stop) => Err(self.line_refusal(group, 1, stop)),
         }
@@ -404,13 +430,14 @@ impl Session {
     ) -> Result<NewLine, Refusal>
         ensures is { IfOk result
             (λ new. IsCompiledFormat self.now.scene.tree.views self.now.scene.metrics
-            (meaning format.now) align self.now.scene.next_row new.line) }
+            (meaning format.now) align self.now.scene.direction self.now.scene.next_row new.line) }
         ensures made { IfOk result (λ new. IsFreeLine self.now group.now new.group new.line new.rows.items) }
         ensures refused { Refusing
             (TriedFormat self.now group.now align (meaning format.now) NoEnd) self.now result }
     {
         let (tree, metrics) = (self.scene.tree(), self.scene.metrics());
         let _count = tree.len(); // for the proof: what a tree keeps
+        let direction = self.scene.direction();
         match compile_format(
             self.alloc,
             tree,
@@ -418,10 +445,11 @@ impl Session {
             format,
             align,
             self.scene.next_row(),
+            direction,
         ) {
             Ok(compiled) => self.new_line(group, compiled),
             Err(stop) => {
-                let count = format_row_count(self.alloc, format, align)?;
+                let count = format_row_count(self.alloc, format, align, direction)?;
                 Err(self.line_refusal(group, count, stop))
             }
         }
@@ -455,6 +483,25 @@ impl Session {
         Ok(name)
     }
 
+    // The rank that a priority stands for, if it does; where none is written, that is this usual one.
+    fn known_rank(&self, priority: Option<Object<'_>>, usual: u16) -> Result<Option<u16>, Refusal>
+        ensures some { IfOk result (λ o. IfSome o (IsRank self.now.scene.tree.views self.now.scene.metrics
+            (priority_or usual (object_view priority.entry)))) }
+        ensures none { IfOk result (λ o. IfNone o (IsRankless self.now.scene
+            (priority_or usual (object_view priority.entry)))) }
+        ensures known { OnOk result (unknown_object self.now.scene.tree.views self.now.scene.metrics
+            (priority_or usual (object_view priority.entry)) ≡ None) }
+        ensures refused { Refusing (UnlessUnknown self.now (priority_or usual (object_view priority.entry))
+            (λ reply new. ⊥)) self.now result }
+    {
+        let (tree, metrics) = (self.scene.tree(), self.scene.metrics());
+        let priority = priority_or(priority, usual);
+        match resolve_rank(tree, metrics, &priority) {
+            Ok(rank) => Ok(rank),
+            Err(name) => Err(Refusal::Unknown(OwnedName::of(self.alloc, name.as_bytes())?)),
+        }
+    }
+
     // The rank that a suggestion's priority stands for.
     fn rank_of(&self, priority: Option<Object<'_>>) -> Result<u16, Refusal>
         ensures rank { IfOk result (IsRank self.now.scene.tree.views self.now.scene.metrics
@@ -464,13 +511,30 @@ impl Session {
         ensures refused { Refusing (UnlessRankless self.now (suggested_priority (object_view priority.entry))
             (λ reply new. ⊥)) self.now result }
     {
-        let (tree, metrics) = (self.scene.tree(), self.scene.metrics());
-        match suggested_rank(self.alloc, tree, metrics, priority) {
-            Ok(rank) => Ok(rank),
-            Err(RankStop::Unknown(name)) => Err(Refusal::Unknown(name)),
-            Err(RankStop::NoRank) => Err(Refusal::Kind(KindWord::Priority)),
-            Err(RankStop::OutOfMemory) => Err(Refusal::OutOfMemory),
+        match self.known_rank(priority, USUAL_RANK)? {
+            Some(rank) => Ok(rank),
+            None => Err(Refusal::Kind(KindWord::Priority)),
         }
+    }
+
+    // The ranks at which a size hugs and resists. An unknown name comes before a priority that is none.
+    fn ranks_of(&self, pulls: Pulls<'_>) -> Result<Ranks, Refusal>
+        ensures ranks { IfOk result (AreRanks self.now.scene (object_view pulls.entry.hug)
+            (object_view pulls.entry.resist)) }
+        ensures known { OnOk result (AreKnownPulls self.now.scene (object_view pulls.entry.hug)
+            (object_view pulls.entry.resist)) }
+        ensures refused { Refusing (UnlessPullsRankless self.now (object_view pulls.entry.hug)
+            (object_view pulls.entry.resist) (λ reply new. ⊥)) self.now result }
+    {
+        let hug = self.known_rank(pulls.hug, USUAL_HUG)?;
+        let resist = self.known_rank(pulls.resist, USUAL_RESIST)?;
+        let Some(hug) = hug else {
+            return Err(Refusal::Kind(KindWord::Priority));
+        };
+        let Some(resist) = resist else {
+            return Err(Refusal::Kind(KindWord::Priority));
+        };
+        Ok(Ranks { hug, resist })
     }
 
     // The first suggestion of an attribute of the view.
@@ -483,6 +547,7 @@ impl Session {
     ) -> Result<Suggestion, LimitWord>
         ensures made { IfOk result (IsSuggestionOf view.0 word value) }
         ensures row { IfOk result (λ s. (s.row ≡ self.now.scene.next_row) × (s.rank ≡ rank)) }
+        ensures direction { IfOk result (λ s. s.direction ≡ self.now.scene.direction) }
         ensures room { OnOk result (IsCrowded self.now 1 → ⊥) }
         ensures stop { IfErr result (λ limit. (priority : Option Meant)
             → Suggests self.now view.0 word value priority rank None NoEnd (Limit limit) self.now) }
@@ -498,6 +563,7 @@ impl Session {
             rank,
             view: view.0,
             word,
+            direction: self.scene.direction(),
             constant,
         })
     }
@@ -527,6 +593,7 @@ impl Session {
             rank: held.rank,
             view: view.0,
             word,
+            direction: held.direction,
             constant,
         })
     }
@@ -576,6 +643,93 @@ impl Session {
             return Err(Refusal::Unknown(OwnedName::of(self.alloc, name.as_bytes())?));
         };
         self.suggestion_for(view, word, value, priority)
+    }
+
+    // The first size of the view.
+    fn first_intrinsic(
+        &self,
+        view: ViewId,
+        size: &WindowSize,
+        ranks: Ranks,
+    ) -> Result<IntrinsicSize, LimitWord>
+        ensures is { IfOk result (λ s. s ≡ intrinsic_at self.now.scene.next_row view.0 size.now.width
+            size.now.height ranks.hug ranks.resist) }
+        ensures room { OnOk result (IsCrowded self.now INTRINSIC_ROWS → ⊥) }
+        ensures stop { IfErr result (λ limit. (hug resist : Option Meant)
+            → Sizes self.now view.0 size.now.width size.now.height hug resist ranks.hug ranks.resist None
+            NoEnd (Limit limit) self.now) }
+    {
+        if self.is_crowded(INTRINSIC_ROWS as usize) {
+            return Err(LimitWord::Rows);
+        }
+        Ok(IntrinsicSize {
+            first_row: self.scene.next_row(),
+            view: view.0,
+            width: size.width,
+            height: size.height,
+            resist: ranks.resist,
+            hug: ranks.hug,
+        })
+    }
+
+    // What the size that the view would like comes to.
+    fn intrinsic_for(
+        &self,
+        view: ViewId,
+        size: &WindowSize,
+        pulls: Pulls<'_>,
+    ) -> Result<NewIntrinsic, Refusal>
+        ensures made { IfOk result (IsIntrinsicFor self.now view.0 size.now.width size.now.height
+            (object_view pulls.entry.hug) (object_view pulls.entry.resist)) }
+        ensures refused { Refusing (SizeStep self.now view.0 size.now.width size.now.height
+            (object_view pulls.entry.hug) (object_view pulls.entry.resist)) self.now result }
+    {
+        let ranks = self.ranks_of(pulls)?;
+        let Some(held) = self.scene.intrinsic(view) else {
+            return match self.first_intrinsic(view, size, ranks) {
+                Ok(new) => Ok(NewIntrinsic::First(new)),
+                Err(limit) => Err(Refusal::Limit(limit)),
+            };
+        };
+        if pulls.is_written() {
+            return Err(Refusal::Kind(KindWord::Sized));
+        }
+        match later_intrinsic(&held, size) {
+            Some(again) => Ok(NewIntrinsic::Again(again)),
+            None => Err(Refusal::Limit(LimitWord::Constant)),
+        }
+    }
+
+    // What the size that the view of this name would like comes to.
+    fn new_intrinsic(
+        &self,
+        name: &str,
+        size: &WindowSize,
+        pulls: Pulls<'_>,
+    ) -> Result<NewIntrinsic, Refusal>
+        ensures made { IfOk result (IsFreeIntrinsic self.now name.now size.now.width size.now.height
+            (object_view pulls.entry.hug) (object_view pulls.entry.resist)) }
+        ensures refused { Refusing (TriedSize self.now name.now size.now.width size.now.height
+            (object_view pulls.entry.hug) (object_view pulls.entry.resist) NoEnd) self.now result }
+    {
+        let Some(view) = self.scene.tree().find(name) else {
+            return Err(Refusal::Unknown(OwnedName::of(self.alloc, name.as_bytes())?));
+        };
+        self.intrinsic_for(view, size, pulls)
+    }
+
+    // The view of this name, of which a size is held.
+    fn sized(&self, name: &str) -> Result<ViewId, Refusal>
+        ensures held { IfOk result (λ id. IsHeldIntrinsic self.now.scene name.now id.0) }
+        ensures refused { Refusing (TriedUnsize self.now name.now NoEnd) self.now result }
+    {
+        let Some(view) = self.scene.tree().find(name) else {
+            return Err(Refusal::Unknown(OwnedName::of(self.alloc, name.as_bytes())?));
+        };
+        if self.scene.intrinsic(view).is_none() {
+            return Err(Refusal::Unknown(intrinsic_name(self.alloc, name)?));
+        }
+        Ok(view)
     }
 
     // The view of this name, of which this suggestion is held.
@@ -700,6 +854,45 @@ impl Session {
         }
     }
 
+    // The draft of a command by which something is wished of a view.
+    fn wish_draft(&self, command: &Command<'_>) -> Result<Option<Draft>, Refusal>
+        ensures made { IfOk result (λ o. IfSome o (IsDraft self.now (view command.now))) }
+        ensures none { IfOk result (λ o. IfNone o (IsWish (view command.now) → ⊥)) }
+        ensures refused { Refusing (Tried self.now (view command.now) NoEnd NoOther) self.now result }
+    {
+        self.show_limits(); // for the proof: what a session keeps
+        match command {
+            Command::Suggest {
+                view,
+                word,
+                value,
+                priority,
+            } => {
+                let new = self.new_suggestion(view, *word, *value, *priority)?;
+                Ok(Some(Draft::Update(Update::Suggestion(new))))
+            }
+            Command::Size {
+                name,
+                width,
+                height,
+                hug,
+                resist,
+            } => {
+                let size = WindowSize {
+                    width: *width,
+                    height: *height,
+                };
+                let pulls = Pulls {
+                    hug: *hug,
+                    resist: *resist,
+                };
+                let new = self.new_intrinsic(name, &size, pulls)?;
+                Ok(Some(Draft::Update(Update::Intrinsic(new))))
+            }
+            _ => Ok(None),
+        }
+    }
+
     // The draft of a command after which something is held that wasn't, views left out.
     fn update_draft(&self, command: &Command<'_>) -> Result<Option<Draft>, Refusal>
         ensures made { IfOk result (λ o. IfSome o (IsDraft self.now (view command.now))) }
@@ -728,14 +921,24 @@ impl Session {
                 let new = self.new_format(group, *align, format)?;
                 Ok(Some(Draft::Update(Update::Line(new))))
             }
-            Command::Suggest {
-                view,
-                word,
-                value,
-                priority,
-            } => {
-                let new = self.new_suggestion(view, *word, *value, *priority)?;
-                Ok(Some(Draft::Update(Update::Suggestion(new))))
+            _ => self.wish_draft(command),
+        }
+    }
+
+    // The draft of a command by which something is wished of a view no more.
+    fn unwish_draft(&self, command: &Command<'_>) -> Result<Option<Draft>, Refusal>
+        ensures made { IfOk result (λ o. IfSome o (IsDraft self.now (view command.now))) }
+        ensures none { IfOk result (λ o. IfNone o (IsUnwish (view command.now) → ⊥)) }
+        ensures refused { Refusing (Tried self.now (view command.now) NoEnd NoOther) self.now result }
+    {
+        match command {
+            Command::Release { view, word } => {
+                let view = self.suggested(view, *word)?;
+                Ok(Some(Draft::SuggestionOut(view, *word)))
+            }
+            Command::Unsize { name } => {
+                let view = self.sized(name)?;
+                Ok(Some(Draft::IntrinsicOut(view)))
             }
             _ => Ok(None),
         }
@@ -756,11 +959,18 @@ impl Session {
                 let group = self.held_group(group)?;
                 Ok(Some(Draft::GroupOut(group)))
             }
-            Command::Release { view, word } => {
-                let view = self.suggested(view, *word)?;
-                Ok(Some(Draft::SuggestionOut(view, *word)))
-            }
-            _ => Ok(None),
+            _ => self.unwish_draft(command),
+        }
+    }
+
+    // The draft of a command after which the direction may be another.
+    fn turning_draft(&self, command: &Command<'_>) -> Option<Draft>
+        ensures made { IfSome result (IsDraft self.now (view command.now)) }
+        ensures none { IfNone result (kind_for (view command.now) ≡ Turned → ⊥) }
+    {
+        match command {
+            Command::Direction { to } => Some(Draft::Turn(*to)),
+            _ => None,
         }
     }
 
@@ -776,7 +986,10 @@ impl Session {
         if let Some(draft) = self.update_draft(command)? {
             return Ok(Some(draft));
         }
-        self.leaving_draft(command)
+        if let Some(draft) = self.leaving_draft(command)? {
+            return Ok(Some(draft));
+        }
+        Ok(self.turning_draft(command))
     }
 
     // The step to a draft.
@@ -809,6 +1022,14 @@ impl Session {
                 let end = self.scene.take_suggestion_out(view, word, self.budget);
                 left_answer(end)
             }
+            Draft::IntrinsicOut(view) => {
+                let end = self.scene.take_intrinsic_out(view, self.budget);
+                left_answer(end)
+            }
+            Draft::Turn(to) => {
+                self.scene.turn(to)?;
+                Ok(Reply::Done)
+            }
         }
     }
 
@@ -823,6 +1044,8 @@ impl Session {
             Draft::ViewsOut(gone) => self.scene.left_problem(&gone),
             Draft::GroupOut(group) => self.scene.group_problem(group.bytes()),
             Draft::SuggestionOut(view, word) => self.scene.release_problem(view, word),
+            Draft::IntrinsicOut(view) => self.scene.unsized_problem(view),
+            Draft::Turn(_) => self.scene.turned_problem(),
         }
     }
 

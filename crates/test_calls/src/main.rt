@@ -20,8 +20,8 @@
 //! What the answers keep: they stand in the order of the lines, and depend on the lines since their heading
 //! alone.
 //!
-//! In reading order: `words`, `tables`, `views`, `broken` (a stream that fails), `sources`, `sinks`, `feeding`
-//! (what a feed gives), `feeds`, `cases` (the headings).
+//! In reading order: `words`, `tables`, `views`, `broken` (a stream that fails), `sources`, `sinks`,
+//! `feeding` (what a feed gives), `feeds`, `cases` (the headings).
 #![tactic(auto)]
 
 mod broken;

@@ -1,7 +1,10 @@
 // Lines of a script: their readings, part by part.
 use crate::formats::{put_stop, put_written};
 use frac_core::{Frac, OutOfMemory};
-use script_text::{Align, AttrWord, Command, ExprTerm, Linear, Operand, read_line};
+use script_text::{
+    Align, AttrWord, Command, Direction, ExprTerm, Linear, Operand, Version, is_version_line,
+    read_line_in,
+};
 use span_text::{Object, UNIT};
 use std::alloc::Global;
 use test_text::put_text;
@@ -153,6 +156,39 @@ fn put_constraint(out: &mut String, group: &str, line: &Linear<'_>) -> Result<()
     put_linear(out, line)
 }
 
+fn direction_name(direction: Direction) -> &'static str {
+    match direction {
+        Direction::Ltr => "ltr",
+        Direction::Rtl => "rtl",
+    }
+}
+
+// Appends a view with the width and the height that it would like.
+fn put_wish(out: &mut String, name: &str, width: Frac, height: Frac) -> Result<(), OutOfMemory> {
+    write!(out, "size {name}")?;
+    put_fraction(out, width)?;
+    put_fraction(out, height)
+}
+
+// Appends the priority behind its word, if one is written.
+fn put_pull(out: &mut String, word: &str, priority: Option<Object<'_>>) -> Result<(), OutOfMemory> {
+    if priority.is_some() {
+        write!(out, " {word}")?;
+    }
+    put_priority(out, priority)
+}
+
+// Appends how hard a view hugs its size and how hard it resists, each if it is written.
+fn put_pulls(
+    out: &mut String,
+    hug: Option<Object<'_>>,
+    resist: Option<Object<'_>>,
+) -> Result<(), OutOfMemory> {
+    put_pull(out, "hug", hug)?;
+    put_pull(out, "resist", resist)?;
+    Ok(writeln!(out)?)
+}
+
 // The word of a command that has no other.
 fn lone_word(command: &Command<'_>) -> &'static str {
     match command {
@@ -170,7 +206,26 @@ fn put_lone(out: &mut String, word: &str) -> Result<(), OutOfMemory> {
     Ok(writeln!(out, "{word}")?)
 }
 
-// Appends the reading of a line with a format or a sum, with a count, or of a word alone.
+// Appends the reading of a line that version 2 has besides, or of a word alone.
+fn put_later(out: &mut String, command: &Command<'_>) -> Result<(), OutOfMemory> {
+    match command {
+        Command::Direction { to } => put_named(out, "direction", direction_name(*to)),
+        Command::Size {
+            name,
+            width,
+            height,
+            hug,
+            resist,
+        } => {
+            put_wish(out, name, *width, *height)?;
+            put_pulls(out, *hug, *resist)
+        }
+        Command::Unsize { name } => put_named(out, "unsize", name),
+        _ => put_lone(out, lone_word(command)),
+    }
+}
+
+// Appends the reading of a line with a format or a sum, with a count, or of a later line.
 fn put_larger(alloc: Global, out: &mut String, command: &Command<'_>) -> Result<(), OutOfMemory> {
     match command {
         Command::Vfl {
@@ -180,7 +235,7 @@ fn put_larger(alloc: Global, out: &mut String, command: &Command<'_>) -> Result<
         } => put_vfl(alloc, out, group, *align, format),
         Command::Constrain { group, line } => put_constraint(out, group, line),
         Command::Budget { exchanges } => put_budget(out, *exchanges),
-        _ => put_lone(out, lone_word(command)),
+        _ => put_later(out, command),
     }
 }
 
@@ -210,10 +265,21 @@ fn put_command(alloc: Global, out: &mut String, command: &Command<'_>) -> Result
     }
 }
 
-/// Appends the reading of a line of a script, or where it leaves the grammar.
-pub fn put_line(alloc: Global, out: &mut String, line: &[u8]) -> Result<(), OutOfMemory> {
-    match read_line(alloc, line) {
+/// Appends the reading of a line of a script of this version, or where it leaves the grammar.
+pub fn put_line(
+    alloc: Global,
+    out: &mut String,
+    line: &[u8],
+    version: Version,
+) -> Result<(), OutOfMemory> {
+    match read_line_in(alloc, line, version) {
         Ok(command) => put_command(alloc, out, &command),
         Err(stop) => put_stop(out, stop),
     }
+}
+
+/// Appends whether a script of version 2 begins with this line.
+pub fn put_begins(out: &mut String, line: &[u8]) -> Result<(), OutOfMemory> {
+    let word = if is_version_line(line) { "yes" } else { "no" };
+    put_lone(out, word)
 }

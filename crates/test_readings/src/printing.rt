@@ -1,12 +1,13 @@
 // The cases of the input and what each leads to.
 use crate::blocks::{put_claim, put_cut, put_lines, put_problem};
-use crate::commands::put_line;
+use crate::commands::{put_begins, put_line};
 use crate::formats::{put_counts, put_format};
 use crate::parts::{
     put_either, put_name, put_number, put_ratio, put_raw_name, put_sign, put_tokens, put_whole,
     put_word,
 };
 use frac_core::OutOfMemory;
+use script_text::Version;
 use std::alloc::Global;
 use test_text::{Cases, cases_text, push_escaped, put_escaped};
 
@@ -14,14 +15,28 @@ fn put_no_kind(out: &mut String) -> Result<(), OutOfMemory> {
     Ok(writeln!(out, "no kind")?)
 }
 
+// Appends the reading of a line by the kinds of whole lines.
+fn put_scripted(
+    alloc: Global,
+    out: &mut String,
+    kind: &str,
+    line: &[u8],
+) -> Result<(), OutOfMemory> {
+    match kind {
+        "line" => put_line(alloc, out, line, Version::One),
+        "line 2" => put_line(alloc, out, line, Version::Two),
+        "layout 2" => put_begins(out, line),
+        _ => put_no_kind(out),
+    }
+}
+
 // Appends the reading of a line by the kinds of larger parts.
 fn put_larger(alloc: Global, out: &mut String, kind: &str, line: &[u8]) -> Result<(), OutOfMemory> {
     match kind {
         "vfl or view" => put_either(out, line),
-        "line" => put_line(alloc, out, line),
         "format" => put_format(alloc, out, line),
         "counts" => put_counts(alloc, out, line),
-        _ => put_no_kind(out),
+        _ => put_scripted(alloc, out, kind, line),
     }
 }
 

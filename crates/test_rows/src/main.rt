@@ -5,7 +5,7 @@
 //! - `from N`: all begins anew, and the rows of each line that follows are numbered from N;
 //! - `on from N`: all begins anew, and the rows that follow are numbered from N on, one line's after the
 //!   other's;
-//! - `view ..` and `metric ..`, as in a script;
+//! - `view ..`, `metric ..` and `direction ..`, as in a script of version 2;
 //! - `format` with an alignment, where there is one, and a format, or `line` and a line of a script: its rows
 //!   are printed.
 //!

@@ -7,7 +7,7 @@ use format_compile::{compile_format, format_row_count};
 use frac_core::{Frac, OutOfMemory, Stop};
 use name_tables::LimitWord;
 use problem_core::Row;
-use script_text::{Align, Command, Linear, read_line};
+use script_text::{Align, Command, Direction, Linear, Version, read_line_in};
 use span_text::SyntaxAt;
 use std::alloc::Global;
 use vfl_text::Format;
@@ -63,9 +63,17 @@ fn put_format(
     align: Option<Align>,
     format: &Format<'_>,
 ) -> Result<usize, OutOfMemory> {
-    let counted = format_row_count(alloc, format, align)?;
+    let counted = format_row_count(alloc, format, align, setting.direction)?;
     let Setting { tree, metrics, .. } = setting;
-    let made = compile_format(alloc, tree, metrics, format, align, setting.number.max(1));
+    let made = compile_format(
+        alloc,
+        tree,
+        metrics,
+        format,
+        align,
+        setting.number.max(1),
+        setting.direction,
+    );
     match &made {
         Ok(compiled) => put_compiled(alloc, out, setting, compiled, counted),
         Err(stop) => put_none(out, stop),
@@ -80,7 +88,14 @@ fn put_linear(
     line: &Linear<'_>,
 ) -> Result<usize, OutOfMemory> {
     let Setting { tree, metrics, .. } = setting;
-    let made = compile_line(alloc, tree, metrics, line, setting.number.max(1));
+    let made = compile_line(
+        alloc,
+        tree,
+        metrics,
+        line,
+        setting.number.max(1),
+        setting.direction,
+    );
     match &made {
         Ok(compiled) => put_rows(alloc, out, setting, compiled),
         Err(stop) => put_none(out, stop),
@@ -113,12 +128,19 @@ fn put_metric(
     Ok(0)
 }
 
+// The lines that follow are meant in this direction.
+fn turn(setting: &mut Setting, to: Direction) -> usize {
+    setting.direction = to;
+    0
+}
+
 fn put_another(out: &mut String) -> Result<usize, OutOfMemory> {
     writeln!(out, "another line")?;
     Ok(0)
 }
 
-// What a command leads to: a view, a metric, or the rows of a line, of which it says how many there are.
+// What a command leads to: a view, a metric, a direction, or the rows of a line, of which it says how many
+// there are.
 fn put_command(
     alloc: Global,
     out: &mut String,
@@ -134,6 +156,7 @@ fn put_command(
             format,
         } => put_format(alloc, out, setting, *align, format),
         Command::Constrain { group: _, line } => put_linear(alloc, out, setting, line),
+        Command::Direction { to } => Ok(turn(setting, *to)),
         _ => put_another(out),
     }
 }
@@ -152,7 +175,7 @@ fn put_line(
     line: &[u8],
     before: usize,
 ) -> Result<usize, OutOfMemory> {
-    match read_line(alloc, line) {
+    match read_line_in(alloc, line, Version::Two) {
         Ok(command) => put_command(alloc, out, setting, &command),
         Err(Stop::Refused(SyntaxAt(at))) => put_outside(out, at.saturating_sub(before)),
         Err(Stop::OutOfMemory) => Err(OutOfMemory),

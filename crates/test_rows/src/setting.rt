@@ -1,14 +1,17 @@
-// The views and the metrics of some lines.
+// The views, the metrics and the direction of some lines.
 use frac_core::{Frac, OutOfMemory};
 use name_tables::{Metrics, NameStop};
+use script_text::Direction;
 use std::alloc::Global;
 use view_tree::{Tree, ViewStop};
 
-/// The views, the metrics, and how rows are numbered.
+/// The views, the metrics, the direction, and how rows are numbered.
 #[derive(Drop)]
 pub struct Setting {
     pub tree: Tree,
     pub metrics: Metrics,
+    /// The direction in which lines are meant.
+    pub direction: Direction,
     /// The number of the next row.
     pub number: u32,
     /// Whether a line's rows are numbered after those of the line before.
@@ -16,11 +19,12 @@ pub struct Setting {
 }
 
 impl Setting {
-    /// The window alone.
+    /// The window alone, from left to right.
     pub fn new(alloc: Global, number: u32, is_running_on: bool) -> Result<Setting, OutOfMemory> {
         Ok(Setting {
             tree: Tree::new(alloc)?,
             metrics: Metrics::new(alloc)?,
+            direction: Direction::Ltr,
             number,
             is_running_on,
         })

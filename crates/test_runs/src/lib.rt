@@ -1,4 +1,4 @@
-//! Runs of a program, and steps of its sessions, as lines of text say them: what programs that test print.
+//! Runs of a program, and steps of sessions, as lines of text say them: what programs that test print.
 //!
 //! Below the heading of a run, which is its words, stands its input. Behind `;` the heading may say:
 //!
@@ -12,7 +12,7 @@
 //! What a session's lines say, `sessions` tells; [`put_table`] and [`put_paths`] read scripts.
 //!
 //! ```
-//! // `Tested` is a program and its session, of which the two traits say what is asked
+//! // of a program, and of a session with a checker, traits say what is asked
 //! put_run::<Tested>(alloc, out, "run ; pulls 1", b"window 320 480\n")?;
 //! put_lines(alloc, out, &mut session, b"judged window 320 480\n")?;
 //! ```
@@ -20,9 +20,9 @@
 //! What always holds: a run knows of no other, and has a source and a sink of its own. Nothing here makes a
 //! session.
 //!
-//! In reading order: `tested` (what is asked of a program and a session), `lines`, `options`, `inputs`,
-//! `runs`, `table` (each call fails in turn); `verdicts` (what `check` says), `drawn_lines`, `drawing`,
-//! `sessions`; `stops`, `posed` (the problem that a path speaks of), `wishes`, `paths`.
+//! In reading order: `tested` (what is asked of a program, a checker and a session), `lines`, `options`,
+//! `inputs`, `runs`, `table` (each call fails in turn); `verdicts` (what the checker says), `drawn_lines`,
+//! `drawing`, `sessions`; `stops`, `posed` (the problem that a path speaks of), `wishes`, `paths`.
 #![tactic(auto)]
 
 mod drawing;
@@ -44,4 +44,4 @@ pub use paths::put_paths;
 pub use runs::put_run;
 pub use sessions::put_lines;
 pub use table::put_table;
-pub use tested::{Answer, Kind, Program, Talk};
+pub use tested::{Answer, Checker, Kind, Program, Talk};

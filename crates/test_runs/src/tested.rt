@@ -1,4 +1,4 @@
-// What is asked of a program and of its sessions. No clause says anything of them: they are tested.
+// What is asked of a program, of a checker and of sessions. No clause says anything of them: they are tested.
 use edge_io::{MemorySink, Sink, Source};
 use frac_core::OutOfMemory;
 use std::alloc::Global;
@@ -12,6 +12,12 @@ pub trait Program {
         source: &mut S,
         sink: &mut K,
     ) -> &'static str;
+}
+
+/// A checker of claims over sources and sinks.
+pub trait Checker {
+    /// Reads a problem and a claim, and puts the verdict.
+    fn check<S: Source, K: Sink>(alloc: Global, source: &mut S, sink: &mut K);
 }
 
 /// What an answer is.
@@ -50,8 +56,8 @@ impl Answer {
     }
 }
 
-/// A session of a program, which takes lines.
-pub trait Talk: Program {
+/// A session, which takes lines, and the checker of what it is answered.
+pub trait Talk: Checker {
     /// Takes a line, and gives what it is answered.
     fn answer(&mut self, alloc: Global, line: &str) -> Result<Answer, OutOfMemory>;
 

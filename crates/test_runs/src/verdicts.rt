@@ -1,6 +1,5 @@
-// What the word `check` says of the claims that answers print.
-use crate::inputs::words_of;
-use crate::tested::{Answer, Kind, Program};
+// What the checker says of the claims that answers print.
+use crate::tested::{Answer, Checker, Kind};
 use edge_io::{MemorySink, MemorySource};
 use frac_core::OutOfMemory;
 use std::alloc::Global;
@@ -19,37 +18,24 @@ fn source_of(alloc: Global, problem: &[u8], claim: &[u8]) -> Result<MemorySource
     Ok(MemorySource::new(text, Vec::new(alloc), Vec::new(alloc)))
 }
 
-// What the word `check`, which stands alone in the list, leads to.
-fn checked<P: Program>(
-    alloc: Global,
-    words: &[String],
-    source: &mut MemorySource,
-) -> Result<Vec<u8>, OutOfMemory> {
+fn checked<P: Checker>(alloc: Global, source: &mut MemorySource) -> Result<Vec<u8>, OutOfMemory> {
     let mut sink = MemorySink::new(alloc, 100, Vec::new(alloc))?;
-    P::run(alloc, words, source, &mut sink);
+    P::check(alloc, source, &mut sink);
     Ok(sink.bytes().to_vec(alloc)?)
 }
 
-fn checked_by<P: Program>(
-    alloc: Global,
-    source: &mut MemorySource,
-) -> Result<Vec<u8>, OutOfMemory> {
-    let words = words_of(alloc, "check")?;
-    checked::<P>(alloc, &words, source)
-}
-
-// What the word `check` says of a problem and a claim.
-fn verdict_of<P: Program>(
+// What the checker says of a problem and a claim.
+fn verdict_of<P: Checker>(
     alloc: Global,
     problem: &[u8],
     claim: &[u8],
 ) -> Result<Vec<u8>, OutOfMemory> {
     let mut source = source_of(alloc, problem, claim)?;
-    checked_by::<P>(alloc, &mut source)
+    checked::<P>(alloc, &mut source)
 }
 
-/// Appends what the word `check` says of a problem and a claim.
-pub fn put_verdict_of<P: Program>(
+/// Appends what the checker says of a problem and a claim.
+pub fn put_verdict_of<P: Checker>(
     alloc: Global,
     out: &mut String,
     problem: &[u8],
@@ -59,8 +45,8 @@ pub fn put_verdict_of<P: Program>(
     put_text(out, &verdict)
 }
 
-// Whether the word `check` says yes to a problem and a claim.
-fn says_yes<P: Program>(alloc: Global, problem: &[u8], claim: &[u8]) -> Result<bool, OutOfMemory> {
+// Whether the checker says yes to a problem and a claim.
+fn says_yes<P: Checker>(alloc: Global, problem: &[u8], claim: &[u8]) -> Result<bool, OutOfMemory> {
     let verdict = verdict_of::<P>(alloc, problem, claim)?;
     Ok(verdict.as_slice() == b"yes\n".as_slice())
 }
@@ -76,8 +62,8 @@ fn claim_of<'a>(problem: &'a [u8], answer: &'a Answer) -> Option<(&'a [u8], &'a 
     }
 }
 
-/// Appends what the word `check` says of the multipliers of an answer, where it prints any.
-pub fn put_verdict<P: Program>(
+/// Appends what the checker says of the multipliers of an answer, where it prints any.
+pub fn put_verdict<P: Checker>(
     alloc: Global,
     out: &mut String,
     problem: &[u8],
@@ -89,8 +75,8 @@ pub fn put_verdict<P: Program>(
     }
 }
 
-/// Whether the word `check` says yes to the multipliers of an answer, if it prints any.
-pub fn is_yes<P: Program>(
+/// Whether the checker says yes to the multipliers of an answer, if it prints any.
+pub fn is_yes<P: Checker>(
     alloc: Global,
     problem: &[u8],
     answer: &Answer,

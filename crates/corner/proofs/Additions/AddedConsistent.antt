@@ -43,7 +43,7 @@ use Rattle.frac_core.proofs.Lists.{each-at as contained, each-of as each-contain
 use Rattle.corner_joins.proofs.Additions.AddedRows.{begins_one_in}
 use Rattle.cert_core.specs.declared.stops.RunStop.{RunStop}
 use Rattle.cert_core.specs.declared.stops.RunStop.TheVariants.{Conflict, Unfit, Spent, OutOfMemory}
-use Rattle.corner_joins.specs.Stops.{IsAddStop}
+use Rattle.corner_joins.specs.Stops.{AllSumsFit, IsAddStop}
 
 split-at : (xs : List Row) (i : ℕ) (x : Row) → i < length xs → (before : List Row) × (after : List Row) × (xs ≡ before ++ (get_or xs i x ∷ after))
 split-at [] i x lt = absurd (omega (arith, lt))
@@ -135,3 +135,6 @@ seen_stop t listed rows (Conflict by) h = h
 seen_stop t listed rows (Spent path) h = h
 seen_stop t listed rows (Unfit at) h = h
 seen_stop t listed rows OutOfMemory h = h
+
+pub seen_fits : (t : Table) (listed : List ℕ) (rows : List Row) → AllSumsFit (seen_of (lists_of t)) rows → AllSumsFit (view_of t listed) rows
+seen_fits t listed rows h = λ at stop. h at stop

@@ -105,10 +105,10 @@ over_step t r rest slots whole =
     ∙ append_more (inside_of t (row_names t)) (over_mark r.id ∷ []) (map (λ r. over_mark r.id) rest ++ inside_of t (stay_names t))
 
 -- the problem with the row, and then with the rest
-then_rest : (rows : List Row) (r : Row) (rest : List Row) (stays : List Stay) → IsWhole (record { rows = rows ++ (r ∷ rest); stays = stays }) → IsWhole (record { rows = (rows ++ (r ∷ [])) ++ rest; stays = stays })
+pub then_rest : (rows : List Row) (r : Row) (rest : List Row) (stays : List Stay) → IsWhole (record { rows = rows ++ (r ∷ rest); stays = stays }) → IsWhole (record { rows = (rows ++ (r ∷ [])) ++ rest; stays = stays })
 then_rest rows r rest stays h = subst (λ (x : List Row). IsWhole (record { rows = x; stays = stays })) (sym (append_more rows (r ∷ []) rest)) h
 
-first_whole : (p : Problem) (r : Row) (rest : List Row) → IsWhole (with_rows (r ∷ rest) p) → IsWhole (with_row r p)
+pub first_whole : (p : Problem) (r : Row) (rest : List Row) → IsWhole (with_rows (r ∷ rest) p) → IsWhole (with_row r p)
 first_whole p r rest h = whole_front (p.rows ++ (r ∷ [])) rest p.stays (then_rest p.rows r rest p.stays h)
 
 over_marks : (rest : List Row) (t : Lists) → AreSlots t → IsWhole (with_rows rest (problem_of t)) → marks_over t rest ≡ marks_at (rest_over rest t)
@@ -367,15 +367,15 @@ pub record IsStopped (t0 t : Lists) (rows more : List Row) (r : Row) (rest : Lis
   pub begins : BeginsWith (problem_of t) (marks_at t0) more [] (marks_at t)
   pub values : NoNegativeValue (problem_of t) (marks_at t)
 
-all_problem : (t0 t : Lists) (rows more : List Row) (r : Row) (rest : List Row) → IsStopped t0 t rows more r rest → with_rows (r ∷ rest) (problem_of t) ≡ with_rows rows (problem_of t0)
+pub all_problem : (t0 t : Lists) (rows more : List Row) (r : Row) (rest : List Row) → IsStopped t0 t rows more r rest → with_rows (r ∷ rest) (problem_of t) ≡ with_rows rows (problem_of t0)
 all_problem t0 t rows more r rest s =
     ap (λ (p : Problem). with_rows (r ∷ rest) p) (problem_so_far more t0 t s.lists)
     ∙ ap (λ (x : List Row). record { rows = x; stays = t0.stays }) (append_more t0.rows more (r ∷ rest) ∙ ap (λ (x : List Row). t0.rows ++ x) s.parts)
 
-stop_whole : (t0 t : Lists) (rows more : List Row) (r : Row) (rest : List Row) → IsStopped t0 t rows more r rest → IsWhole (with_rows (r ∷ rest) (problem_of t))
+pub stop_whole : (t0 t : Lists) (rows more : List Row) (r : Row) (rest : List Row) → IsStopped t0 t rows more r rest → IsWhole (with_rows (r ∷ rest) (problem_of t))
 stop_whole t0 t rows more r rest s = subst IsWhole (sym (all_problem t0 t rows more r rest s)) s.whole
 
-stop_begun : (t0 t : Lists) (rows more : List Row) (r : Row) (rest : List Row) → (s : IsStopped t0 t rows more r rest) → IsBegun (with_rows (r ∷ rest) (problem_of t)) (marks_at t0) more (r ∷ rest) (marks_over t (r ∷ rest)) r.id
+pub stop_begun : (t0 t : Lists) (rows more : List Row) (r : Row) (rest : List Row) → (s : IsStopped t0 t rows more r rest) → IsBegun (with_rows (r ∷ rest) (problem_of t)) (marks_at t0) more (r ∷ rest) (marks_over t (r ∷ rest)) r.id
 stop_begun t0 t rows more r rest s =
     let whole = stop_whole t0 t rows more r rest s in
     begun_over t (marks_at t0) more (r ∷ rest) r.id s.kept.slots whole (later_ids t.rows r rest whole.rising) s.kept.corner s.begins s.values

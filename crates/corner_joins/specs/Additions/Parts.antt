@@ -22,7 +22,8 @@ use Rattle.corner_lines.specs.LineEquations.{IsOutsideLine}
 use Rattle.corner_table.specs.declared.table.TheConstants.{LEVELS}
 use Rattle.corner_table.specs.Tables.{Lists, line_slot, marks_at, number, priority_at, problem_of, row_at}
 use Rattle.corner_table.specs.Tables.{standing_at}
-use Rattle.corner_table.specs.Kept.{AreOutside, AreSlots, AreStored, HasStayRoom, IsAttrRow, IsLineRow, level_own}
+use Rattle.corner_table.specs.Kept.{AreOutside, AreSlots, AreStored, HasStayRoom, IsAttrRow, IsLineRow}
+use Rattle.corner_table.specs.Kept.{level_own}
 use Rattle.corner_table.specs.Kept.{row_count}
 
 -- ---- levels whose last rows have not joined their costs

@@ -34,7 +34,7 @@ use Rattle.frac_core.proofs.Bools.{count-other as cond_other, count-same as cond
 
 -- ---- the first corner
 
-first_values : ℕ → (ℕ → ℤ) → ℕ → ℕ → ℤ
+pub first_values : ℕ → (ℕ → ℤ) → ℕ → ℕ → ℤ
 first_values one n c v = cond (nat_eq c one_column) (n v) (pos one *ℤ unit_at c v)
 
 first-value : (one : ℕ) (n : ℕ → ℤ) (v : ℕ) → first_values one n one_column v ≡ n v
@@ -81,7 +81,7 @@ unit_positive one n v (m ∷ ms) above far (k, within, is) =
     later (suc k) within is ne = (k, omega (arith, within), is)
 
 -- at the first corner the marks inside have lifts of their own alone
-first_extended : (p : Problem) (first : List Mark) (x : Point) (one : ℕ) → IsWhole p → IsCorner p first → StandsAt p first x → x.num one_column ≡ pos one → 0 < one → All (λ m. pos 0 ≤ℤ x.num (place m)) first → IsExtended p first first (first_values one x.num) one
+pub first_extended : (p : Problem) (first : List Mark) (x : Point) (one : ℕ) → IsWhole p → IsCorner p first → StandsAt p first x → x.num one_column ≡ pos one → 0 < one → All (λ m. pos 0 ≤ℤ x.num (place m)) first → IsExtended p first first (first_values one x.num) one
 unfolding first_values
 first_extended p first x one whole corner stands unit above values =
     let marks : Each (λ m. IsMarkAt p (place m)) first = recursion_from_All (λ m. IsMarkAt p (place m)) first corner.marks in
@@ -160,7 +160,7 @@ pub record IsLaterCorner (p : Problem) (first : List Mark) (values : ℕ → ℕ
   pub extended : IsExtended p first at after scale
   pub lower : AreLower p (run_columns first) one values scale after
 
-later_all : (p : Problem) (first at : List Mark) (s : Swap) (swaps : List Swap) (values : ℕ → ℕ → ℤ) (one : ℕ) → IsWhole p → HasRays p first → IsCorner p at → HasRays p at → IsExtended p first at values one → AreRunSwaps p first at (s ∷ swaps) → Each (IsLaterCorner p first values one) (corners (exchanged s at) swaps)
+pub later_all : (p : Problem) (first at : List Mark) (s : Swap) (swaps : List Swap) (values : ℕ → ℕ → ℤ) (one : ℕ) → IsWhole p → HasRays p first → IsCorner p at → HasRays p at → IsExtended p first at values one → AreRunSwaps p first at (s ∷ swaps) → Each (IsLaterCorner p first values one) (corners (exchanged s at) swaps)
 later_all p first at s [] values one whole start corner rays e run =
     let h = run_step p first at s values one whole start corner rays e run.0 in
     (record { after = h.after; scale = h.scale; extended = h.extended; lower = h.lower }, tt)

@@ -7,7 +7,7 @@ use Rattle.problem_core.specs.Window.{zero_fraction}
 use Rattle.compile_parts.specs.Meaning.{MetricList}
 use Rattle.constraint_compile.specs.Compiled.{RowForm, IsRowNow}
 use Rattle.compile_parts.specs.Steps.{last_scale}
-use Rattle.held_items.specs.Items.{Item, OfWindow, OfView, Sized, OfLine, Suggested, AreItemRows, AreRows}
+use Rattle.held_items.specs.Items.{Item, OfWindow, OfView, Sized, OfLine, Suggested, Intrinsic, AreItemRows, AreRows}
 use Rattle.problem_core.specs.Unfit.{without_constant}
 use Rattle.held_items.proofs.Constants.SameRow.{same-row}
 use Rattle.held_items.proofs.HeldRows.NextRows.{shape}
@@ -34,6 +34,7 @@ alike-item a b (OfView first id) xs ys one two = ap (map without_constant) (one 
 alike-item a b (Sized first width height) xs ys one two = ap (map without_constant) (one ∙ sym two)
 alike-item a b (OfLine group line) xs ys one two = rows-now a line.rows xs one.long one.each ∙ sym (rows-now b line.rows ys two.long two.each)
 alike-item a b (Suggested s) xs ys one two = ap (map without_constant) (one ∙ sym two)
+alike-item a b (Intrinsic s) xs ys one two = ap (map without_constant) (one ∙ sym two)
 
 pub alike-rows : (a b : MetricList) (items : List Item) (xs ys : List Row) → AreRows a items xs → AreRows b items ys → map without_constant xs ≡ map without_constant ys
 alike-rows a b [] xs ys one two = ap (map without_constant) (one ∙ sym two)

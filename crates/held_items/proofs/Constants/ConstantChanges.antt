@@ -67,6 +67,16 @@ changes-rising (b ∷ xs) (a ∷ ys) to (inr (more, e, is)) rising =
     (All-from_recursion (λ (c : Change). b.id < c.row) more (changes-above b.id xs ys more is (first-below b xs rising)))
     (changes-rising xs ys more is (pairs-tail (λ (r s : Row). r.id < s.id) b xs rising)))
 
+-- denominators above 0 stay so
+pub above-after : (xs ys : List Row) (to : List Change) → AreChanges xs ys to → Each (λ r. 0 < r.constant.den) xs → Each (λ c. 0 < c.constant.den) to → Each (λ r. 0 < r.constant.den) ys
+above-after [] [] to are of_xs of_to = tt
+above-after [] (y ∷ ys) to are of_xs of_to = absurd are
+above-after (x ∷ xs) [] to are of_xs of_to = absurd are
+above-after (x ∷ xs) (y ∷ ys) to (inl (e, are)) of_xs of_to = (subst (λ (f : Fraction). 0 < f.den) e of_xs.0, above-after xs ys to are of_xs.1 of_to)
+above-after (x ∷ xs) (y ∷ ys) to (inr (more, e, are)) of_xs of_to =
+    let parts : Each (λ c. 0 < c.constant.den) (change x.id y.constant ∷ more) = subst (Each (λ (c : Change). 0 < c.constant.den)) e of_to in
+    (parts.0, above-after xs ys more are of_xs.1 parts.1)
+
 -- ---- what the changes make
 
 apart : (n : ℕ) (r : Row) → r.id ≡ n → (to : List Change) → Each (λ c. n < c.row) to → Each (λ c. Each (λ s. s.id ≢ c.row) (r ∷ [])) to

@@ -11,7 +11,7 @@ use Rattle.constraint_compile.specs.Naming.{names_metric, naming, AreSameBut, Is
 use Rattle.constraint_compile.specs.declared.naming.RowConstant.{RowConstant}
 use Rattle.constraint_compile.proofs.RowConstants.Named.{other_row, other_small}
 use Rattle.layout_solver.specs.declared.engine.Change.{Change}
-use Rattle.held_items.specs.Items.{Item, OfWindow, OfView, Sized, OfLine, Suggested, AreItemRows, AreRows, IsSmallItem}
+use Rattle.held_items.specs.Items.{Item, OfWindow, OfView, Sized, OfLine, Suggested, Intrinsic, AreItemRows, AreRows, IsSmallItem}
 use Rattle.problem_core.specs.Unfit.{at_constant}
 use Rattle.held_items.specs.Moving.{forms_in, forms_of, change_to}
 use Rattle.held_items.proofs.Constants.ConstantChanges.{AreChanges, change, changes-none, changes-append}
@@ -28,7 +28,7 @@ zipped R [] (y ∷ ys) long each = absurd (omega (arith, long))
 zipped R (x ∷ xs) [] long each = absurd (omega (arith, long))
 zipped R (x ∷ xs) (y ∷ ys) long each = (each zero x y (omega arith), zipped R xs ys (omega (arith, long)) (λ i a b within. each (suc i) a b (omega (arith, within))))
 
-zip-at : {A B : Type 0} (R : A → B → Type 0) (xs : List A) (ys : List B) → AllZip R xs ys → (i : ℕ) (x : A) (y : B) → i < length xs → R (get_or xs i x) (get_or ys i y)
+pub zip-at : {A B : Type 0} (R : A → B → Type 0) (xs : List A) (ys : List B) → AllZip R xs ys → (i : ℕ) (x : A) (y : B) → i < length xs → R (get_or xs i x) (get_or ys i y)
 zip-at R [] ys are i a b within = absurd (omega (arith, within))
 zip-at R (x ∷ xs) [] are i a b within = absurd are
 zip-at R (x ∷ xs) (y ∷ ys) are zero a b within = are.0
@@ -49,11 +49,11 @@ split R (x ∷ xs) ys (z ∷ zs) are =
     let s : IsSplit R xs ys zs = split R xs ys zs are.1 in
     record { front = z ∷ s.front; back = s.back; is = ap (λ (bs : List _). z ∷ bs) s.is; first = (are.0, s.first); rest = s.rest }
 
-joined : {A B : Type 0} (R : A → B → Type 0) (xs ys : List A) (us vs : List B) → AllZip R xs us → AllZip R ys vs → AllZip R (xs ++ ys) (us ++ vs)
-joined R [] ys [] vs first rest = rest
-joined R [] ys (u ∷ us) vs first rest = absurd first
-joined R (x ∷ xs) ys [] vs first rest = absurd first
-joined R (x ∷ xs) ys (u ∷ us) vs first rest = (first.0, joined R xs ys us vs first.1 rest)
+pub zip-joined : {A B : Type 0} (R : A → B → Type 0) (xs ys : List A) (us vs : List B) → AllZip R xs us → AllZip R ys vs → AllZip R (xs ++ ys) (us ++ vs)
+zip-joined R [] ys [] vs first rest = rest
+zip-joined R [] ys (u ∷ us) vs first rest = absurd first
+zip-joined R (x ∷ xs) ys [] vs first rest = absurd first
+zip-joined R (x ∷ xs) ys (u ∷ us) vs first rest = (first.0, zip-joined R xs ys us vs first.1 rest)
 
 pub naming-append : (name : List ℕ) (xs ys : List RowForm) → naming name (xs ++ ys) ≡ naming name xs ++ naming name ys
 naming-append name xs ys = filter-append (names_metric name) xs ys
@@ -76,7 +76,7 @@ pub constants-more : (ms : MetricList) (name : List ℕ) (held : List Item) (ite
     → AreConstantsOf ms (naming name (forms_of (held ++ item ∷ []))) (constants ++ more)
 constants-more ms name held item constants more are new =
     subst (λ (fs : List RowForm). AreConstantsOf ms fs (constants ++ more)) (sym (ap (naming name) (forms-more held item) ∙ naming-append name (forms_of held) (forms_in item)))
-    (joined (IsConstantOf ms) (naming name (forms_of held)) (naming name (forms_in item)) constants more are new)
+    (zip-joined (IsConstantOf ms) (naming name (forms_of held)) (naming name (forms_in item)) constants more are new)
 
 -- ---- the rows of an item
 
@@ -134,6 +134,7 @@ module _ (name : List ℕ) (old new : MetricList) (same : AreSameBut name old ne
   item-after (OfView first id) rows constants are own = still (AreItemRows new (OfView first id)) rows constants own are
   item-after (Sized first w h) rows constants are own = still (AreItemRows new (Sized first w h)) rows constants own are
   item-after (Suggested s) rows constants are own = still (AreItemRows new (Suggested s)) rows constants own are
+  item-after (Intrinsic s) rows constants are own = still (AreItemRows new (Intrinsic s)) rows constants own are
   item-after (OfLine group line) rows constants are own =
       let a : AreAfter line.rows rows constants = forms-after line.rows rows constants (zipped (IsRowNow old) line.rows rows are.long are.each) (recursion_from_All (λ (f : RowForm). AreSmallSteps old f.steps) line.rows are.small) own in
       record {
@@ -174,6 +175,7 @@ small-forms ms (OfWindow ∷ held) small = small-forms ms held small.1
 small-forms ms (OfView first id ∷ held) small = small-forms ms held small.1
 small-forms ms (Sized first w h ∷ held) small = small-forms ms held small.1
 small-forms ms (Suggested s ∷ held) small = small-forms ms held small.1
+small-forms ms (Intrinsic s ∷ held) small = small-forms ms held small.1
 small-forms ms (OfLine group line ∷ held) small = each-join ms line.rows (forms_of held) (recursion_from_All (λ (f : RowForm). AreSmallSteps ms f.steps) line.rows small.0) (small-forms ms held small.1)
 
 each-filtered : (P : RowForm → Type 0) (p : RowForm → Bool) (forms : List RowForm) → Each P forms → Each P (filter p forms)

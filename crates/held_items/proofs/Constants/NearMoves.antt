@@ -5,6 +5,7 @@ use Rattle.std.proofs.lemmas.Bool.{cases_lt}
 use Rattle.std.proofs.lemmas.List.{get_or_default, take_more}
 use Rattle.std.proofs.lemmas.List.Elements.{All-head, All-tail}
 use Rattle.frac_core.specs.Fraction.{Fraction}
+use Rattle.frac_core.proofs.Lists.{each-onto_map}
 use Rattle.problem_core.specs.Layout.{Row}
 use Rattle.constraint_compile.specs.Compiled.{IsFittingSum}
 use Rattle.compile_parts.specs.Fractions.{plus, negated}
@@ -12,7 +13,7 @@ use Rattle.constraint_compile.specs.declared.naming.RowConstant.{RowConstant}
 use Rattle.layout_solver.specs.declared.engine.Change.{Change}
 use Rattle.held_items.specs.Moving.{AreNear, IsNear}
 use Rattle.held_items.specs.Moving.{IsStill, IsMoved, IsFar, AreMoves, IsPushed, change_to}
-use Rattle.held_items.proofs.Constants.ConstantChanges.{AreChanges, change, each-change}
+use Rattle.held_items.proofs.Constants.ConstantChanges.{AreChanges, above-after, change, each-change}
 use Rattle.held_items.proofs.Constants.MovedRows.{changes_to}
 use Rattle.held_items.proofs.Constants.Nears.{still-near}
 
@@ -166,12 +167,4 @@ far-moves xs ys cs rising are (k, c, within, c_is, (j, r, inside, r_is, (same, f
 -- ---- denominators
 
 pub above-zero : (xs ys : List Row) (cs : List RowConstant) → AreChanges xs ys (changes_to cs) → Each (λ c. 0 < c.constant.den) cs → Each (λ r. 0 < r.constant.den) xs → Each (λ r. 0 < r.constant.den) ys
-above-zero [] [] cs are of_cs of_xs = tt
-above-zero [] (y ∷ ys) cs are of_cs of_xs = absurd are
-above-zero (x ∷ xs) [] cs are of_cs of_xs = absurd are
-above-zero (x ∷ xs) (y ∷ ys) cs (inl (e, are)) of_cs of_xs = (subst (λ (f : Fraction). 0 < f.den) e of_xs.0, above-zero xs ys cs are of_cs of_xs.1)
-above-zero (x ∷ xs) (y ∷ ys) [] (inr (more, e, are)) of_cs of_xs = cc
-above-zero (x ∷ xs) (y ∷ ys) (c ∷ cs) (inr (more, e, are)) of_cs of_xs =
-    let own : c.constant ≡ y.constant = ap (λ (z : Change). z.constant) (same-head (change_to c) (change x.id y.constant) (changes_to cs) more e) in
-    let rest : AreChanges xs ys (changes_to cs) = subst (AreChanges xs ys) (sym (same-tail (change_to c) (change x.id y.constant) (changes_to cs) more e)) are in
-    (subst (λ (f : Fraction). 0 < f.den) own of_cs.0, above-zero xs ys cs rest of_cs.1 of_xs.1)
+above-zero xs ys cs are of_cs of_xs = above-after xs ys (changes_to cs) are of_xs (each-onto_map (λ (c : Change). 0 < c.constant.den) change_to cs of_cs)

@@ -9,15 +9,18 @@ use Rattle.std.proofs.lemmas.Slice.Eq.{bytes_eq-Decides}
 use Rattle.std.proofs.lemmas.List.Elements.{All-from_recursion, recursion_from_All}
 use Rattle.span_text.specs.Objects.{Meant}
 use Rattle.span_text.specs.Objects as object
-use Rattle.vfl_text.specs.declared.parts.Axis.{Axis}
 use Rattle.vfl_text.specs.Formats.{FormatMeaning, PredMeaning, SpacingMeaning, Flush, Standard, Given, ItemMeaning}
 use Rattle.view_tree.specs.Views.{AreAbove, HasParent, IsAtDepth, IsTree, LiveView, ViewTree, view_named, view_of}
 use Rattle.script_text.specs.declared.words.Align.{Align}
 use Rattle.script_text.specs.declared.words.AttrWord.{AttrWord}
+use Rattle.script_text.specs.declared.words.Direction.{Direction}
+use Rattle.script_text.specs.declared.words.Direction.TheVariants as direction
+use Rattle.vfl_text.specs.declared.parts.Axis.{Axis}
+use Rattle.vfl_text.specs.declared.parts.Axis.TheVariants as axis
 use Rattle.script_text.specs.Meaning as mean
 use Rattle.compile_parts.specs.Meaning.{HasDenominator, MetricList, minus, terms_of, view_in, views_in}
 use Rattle.constraint_compile.specs.Compiled.{RowForm, CompiledLine}
-use Rattle.format_compile.specs.FormatParts.{End, Span, Part, View, Bar, Asks, parts, parts_over, asks, spacing_parts, item_parts, chain_parts, front_parts, back_parts, aligned_parts, align_parts, aligned_word, last_name, own, parents, size, between, inside_near, inside_far, near, far, extent}
+use Rattle.format_compile.specs.FormatParts.{End, Span, Part, View, Bar, Asks, parts, parts_over, asks, spacing_parts, item_parts, chain_parts, front_parts, back_parts, aligned_parts, align_parts, aligned_word, last_name, course_of, onwards, own, parents, size, between, near, far, extent}
 use Rattle.format_compile.specs.FormatLines.{line_of, lines_of, minus_terms, name_in, name_of, ids_named, object_term, object_views, owner_name, part_views, parts_views}
 use Rattle.format_compile.specs.FormatRefusals.{lacks_parent, parent_of}
 use Rattle.format_compile.specs.FormatRows.{AreRowsOf, IsCompiledFormat}
@@ -183,32 +186,49 @@ module _ (t : ViewTree) (tree : IsTree t) where
     spacing-close s usual Standard plus less h = ((plus, less, tt), tt)
     spacing-close s usual (Given ps) plus less h = asks-close s ps plus less h
 
-    item-close : (a : Axis) (i : ItemMeaning) → Each Holds (item_parts a i) → Known i.name × Each IsClosePart (item_parts a i)
-    item-close a i h = (h.0.0, (tt, asks-close (size a i.name) i.sizes (own-close i.name (extent a) h.0.0) tt h.1))
+    -- both ends of a span are close, whichever way it goes
+    onwards-close : (d : Direction) (x : Axis) (from to : End) → IsCloseEnd from → IsCloseEnd to → IsCloseEnd (onwards (course_of d x) from to).plus × IsCloseMinus (onwards (course_of d x) from to).minus
+    onwards-close direction.Ltr axis.H from to one other = (other, one)
+    onwards-close direction.Rtl axis.H from to one other = (one, other)
+    onwards-close d axis.V from to one other = (other, one)
 
-    chain-close : (a : Axis) (before : List ℕ) (gs : List SpacingMeaning) (is : List ItemMeaning) → length gs ≡ length is → Known before → Each Holds (chain_parts a before gs is)
-        → Each (λ i. Known i.name) is × Each IsClosePart (chain_parts a before gs is)
-    chain-close a before [] [] long known h = (tt, tt)
-    chain-close a before [] (i ∷ is) long known h = absurd (omega (arith, long))
-    chain-close a before (g ∷ gs) [] long known h = absurd (omega (arith, long))
-    chain-close a before (g ∷ gs) (i ∷ is) long known h =
-        let first = each-split Holds (spacing_parts (between a before i.name) 8000 g) (item_parts a i ++ chain_parts a i.name gs is) h in
-        let second = each-split Holds (item_parts a i) (chain_parts a i.name gs is) first.1 in
-        let here = item-close a i second.0 in
-        let rest = chain-close a i.name gs is (omega (arith, long)) here.0 second.1 in (
-          (here.0, rest.0),
-          each-join IsClosePart (spacing_parts (between a before i.name) 8000 g) (item_parts a i ++ chain_parts a i.name gs is)
-              (spacing-close (between a before i.name) 8000 g (own-close i.name (near a) here.0) (own-close before (far a) known) first.0)
-              (each-join IsClosePart (item_parts a i) (chain_parts a i.name gs is) here.1 rest.1),
-        )
+    module _ (d : Direction) (x : Axis) where
+      gap-close : (from to : End) (usual : ℕ) (g : SpacingMeaning) → IsCloseEnd from → IsCloseEnd to → Each Holds (spacing_parts (onwards (course_of d x) from to) usual g)
+          → Each IsClosePart (spacing_parts (onwards (course_of d x) from to) usual g)
+      gap-close from to usual g one other h = (let both = onwards-close d x from to one other in spacing-close (onwards (course_of d x) from to) usual g both.0 both.1 h)
 
-    front-close : (a : Axis) (name : List ℕ) (g : Option SpacingMeaning) → Known name → Each Holds (front_parts a name g) → Each IsClosePart (front_parts a name g)
-    front-close a name None known h = tt
-    front-close a name (Some g) known h = (tt, spacing-close (inside_near a name) 20000 g (own-close name (near a) known) (parents-close name (near a) known h.0.1) h.1)
+      item-close : (i : ItemMeaning) → Each Holds (item_parts (course_of d x) i) → Known i.name × Each IsClosePart (item_parts (course_of d x) i)
+      item-close i h = (h.0.0, (tt, asks-close (size (course_of d x) i.name) i.sizes (own-close i.name (extent (course_of d x)) h.0.0) tt h.1))
 
-    back-close : (a : Axis) (name : List ℕ) (g : Option SpacingMeaning) → Known name → Each Holds (back_parts a name g) → Each IsClosePart (back_parts a name g)
-    back-close a name None known h = tt
-    back-close a name (Some g) known h = (tt, spacing-close (inside_far a name) 20000 g (parents-close name (far a) known h.0.1) (own-close name (far a) known) h.1)
+      chain-close : (before : List ℕ) (gs : List SpacingMeaning) (is : List ItemMeaning) → length gs ≡ length is → Known before → Each Holds (chain_parts (course_of d x) before gs is)
+          → Each (λ i. Known i.name) is × Each IsClosePart (chain_parts (course_of d x) before gs is)
+      chain-close before [] [] long known h = (tt, tt)
+      chain-close before [] (i ∷ is) long known h = absurd (omega (arith, long))
+      chain-close before (g ∷ gs) [] long known h = absurd (omega (arith, long))
+      chain-close before (g ∷ gs) (i ∷ is) long known h =
+          let first = each-split Holds (spacing_parts (between (course_of d x) before i.name) 8000 g) (item_parts (course_of d x) i ++ chain_parts (course_of d x) i.name gs is) h in
+          let second = each-split Holds (item_parts (course_of d x) i) (chain_parts (course_of d x) i.name gs is) first.1 in
+          let here = item-close i second.0 in
+          let rest = chain-close i.name gs is (omega (arith, long)) here.0 second.1 in
+          let from = own-close before (far (course_of d x)) known in
+          let to = own-close i.name (near (course_of d x)) here.0 in (
+            (here.0, rest.0),
+            each-join IsClosePart (spacing_parts (between (course_of d x) before i.name) 8000 g) (item_parts (course_of d x) i ++ chain_parts (course_of d x) i.name gs is)
+                (gap-close (own before (far (course_of d x))) (own i.name (near (course_of d x))) 8000 g from to first.0)
+                (each-join IsClosePart (item_parts (course_of d x) i) (chain_parts (course_of d x) i.name gs is) here.1 rest.1),
+          )
+
+      front-close : (name : List ℕ) (g : Option SpacingMeaning) → Known name → Each Holds (front_parts (course_of d x) name g) → Each IsClosePart (front_parts (course_of d x) name g)
+      front-close name None known h = tt
+      front-close name (Some g) known h =
+          let edge = near (course_of d x) in
+          (tt, gap-close (parents name edge) (own name edge) 20000 g (parents-close name edge known h.0.1) (own-close name edge known) h.1)
+
+      back-close : (name : List ℕ) (g : Option SpacingMeaning) → Known name → Each Holds (back_parts (course_of d x) name g) → Each IsClosePart (back_parts (course_of d x) name g)
+      back-close name None known h = tt
+      back-close name (Some g) known h =
+          let edge = far (course_of d x) in
+          (tt, gap-close (own name edge) (parents name edge) 20000 g (own-close name edge known) (parents-close name edge known h.0.1) h.1)
 
     level-close : (w : AttrWord) (before : List ℕ) (is : List ItemMeaning) → Known before → Each (λ i. Known i.name) is → Each IsClosePart (aligned_parts w before is)
     level-close w before [] known h = tt
@@ -222,20 +242,20 @@ module _ (t : ViewTree) (tree : IsTree t) where
     last-known name [] known h = known
     last-known name (i ∷ is) known h = last-known i.name is h.0 h.1
 
-    parts-close : (f : FormatMeaning) (a : Option Align) (is : List ItemMeaning) → length f.spacings + 1 ≡ length is → Each Holds (parts_over f a is) → Each IsClosePart (parts_over f a is)
-    parts-close f a [] long h = tt
-    parts-close f a (i ∷ is) long h =
-        let one = each-split Holds (front_parts f.axis i.name f.from_parent) (item_parts f.axis i ++ (chain_parts f.axis i.name f.spacings is ++ (back_parts f.axis (last_name i.name is) f.to_parent ++ align_parts a i.name is))) h in
-        let two = each-split Holds (item_parts f.axis i) (chain_parts f.axis i.name f.spacings is ++ (back_parts f.axis (last_name i.name is) f.to_parent ++ align_parts a i.name is)) one.1 in
-        let three = each-split Holds (chain_parts f.axis i.name f.spacings is) (back_parts f.axis (last_name i.name is) f.to_parent ++ align_parts a i.name is) two.1 in
-        let four = each-split Holds (back_parts f.axis (last_name i.name is) f.to_parent) (align_parts a i.name is) three.1 in
-        let here = item-close f.axis i two.0 in
-        let rest = chain-close f.axis i.name f.spacings is (omega (arith, long)) here.0 three.0 in
-        each-join IsClosePart (front_parts f.axis i.name f.from_parent) (item_parts f.axis i ++ (chain_parts f.axis i.name f.spacings is ++ (back_parts f.axis (last_name i.name is) f.to_parent ++ align_parts a i.name is))) (front-close f.axis i.name f.from_parent here.0 one.0)
-        (each-join IsClosePart (item_parts f.axis i) (chain_parts f.axis i.name f.spacings is ++ (back_parts f.axis (last_name i.name is) f.to_parent ++ align_parts a i.name is)) here.1
-        (each-join IsClosePart (chain_parts f.axis i.name f.spacings is) (back_parts f.axis (last_name i.name is) f.to_parent ++ align_parts a i.name is) rest.1
-        (each-join IsClosePart (back_parts f.axis (last_name i.name is) f.to_parent) (align_parts a i.name is)
-        (back-close f.axis (last_name i.name is) f.to_parent (last-known i.name is here.0 rest.0) four.0)
+    parts-close : (f : FormatMeaning) (a : Option Align) (d : Direction) (is : List ItemMeaning) → length f.spacings + 1 ≡ length is → Each Holds (parts_over f a (course_of d f.axis) is) → Each IsClosePart (parts_over f a (course_of d f.axis) is)
+    parts-close f a d [] long h = tt
+    parts-close f a d (i ∷ is) long h =
+        let one = each-split Holds (front_parts (course_of d f.axis) i.name f.from_parent) (item_parts (course_of d f.axis) i ++ (chain_parts (course_of d f.axis) i.name f.spacings is ++ (back_parts (course_of d f.axis) (last_name i.name is) f.to_parent ++ align_parts a i.name is))) h in
+        let two = each-split Holds (item_parts (course_of d f.axis) i) (chain_parts (course_of d f.axis) i.name f.spacings is ++ (back_parts (course_of d f.axis) (last_name i.name is) f.to_parent ++ align_parts a i.name is)) one.1 in
+        let three = each-split Holds (chain_parts (course_of d f.axis) i.name f.spacings is) (back_parts (course_of d f.axis) (last_name i.name is) f.to_parent ++ align_parts a i.name is) two.1 in
+        let four = each-split Holds (back_parts (course_of d f.axis) (last_name i.name is) f.to_parent) (align_parts a i.name is) three.1 in
+        let here = item-close d f.axis i two.0 in
+        let rest = chain-close d f.axis i.name f.spacings is (omega (arith, long)) here.0 three.0 in
+        each-join IsClosePart (front_parts (course_of d f.axis) i.name f.from_parent) (item_parts (course_of d f.axis) i ++ (chain_parts (course_of d f.axis) i.name f.spacings is ++ (back_parts (course_of d f.axis) (last_name i.name is) f.to_parent ++ align_parts a i.name is))) (front-close d f.axis i.name f.from_parent here.0 one.0)
+        (each-join IsClosePart (item_parts (course_of d f.axis) i) (chain_parts (course_of d f.axis) i.name f.spacings is ++ (back_parts (course_of d f.axis) (last_name i.name is) f.to_parent ++ align_parts a i.name is)) here.1
+        (each-join IsClosePart (chain_parts (course_of d f.axis) i.name f.spacings is) (back_parts (course_of d f.axis) (last_name i.name is) f.to_parent ++ align_parts a i.name is) rest.1
+        (each-join IsClosePart (back_parts (course_of d f.axis) (last_name i.name is) f.to_parent) (align_parts a i.name is)
+        (back-close d f.axis (last_name i.name is) f.to_parent (last-known i.name is here.0 rest.0) four.0)
         (align-close a i.name is here.0 rest.0))))
 
     -- ---- what holds of the parts of a compiled format
@@ -268,11 +288,11 @@ module _ (t : ViewTree) (tree : IsTree t) where
     rows-owned ms (l ∷ lines) n (r ∷ rows) above close are =
         (row-owned t.views named (terms_of l) r above.0 are.0.is_row.sum close.0, rows-owned ms lines (n + 1) rows above.1 close.1 are.1)
 
-pub format-owned : (t : ViewTree) (ms : MetricList) (f : FormatMeaning) (a : Option Align) (first : ℕ) (c : CompiledLine) → IsTree t → length f.spacings + 1 ≡ length f.items → IsCompiledFormat t.views ms f a first c → AreOwned t.views c
+pub format-owned : (t : ViewTree) (ms : MetricList) (f : FormatMeaning) (a : Option Align) (d : Direction) (first : ℕ) (c : CompiledLine) → IsTree t → length f.spacings + 1 ≡ length f.items → IsCompiledFormat t.views ms f a d first c → AreOwned t.views c
 unfolding parts
-format-owned t ms f a first c tree long is =
+format-owned t ms f a d first c tree long is =
     All-from_recursion (λ (r : RowForm). All (λ u. HasOwner t.views c.views u.attr) r.terms) c.rows
-    (rows-owned t tree c.views ms (lines_of t.views (parts f a)) first c.rows (lines-above t.views (parts f a))
-    (lines-close t tree c.views (parts f a) (parts-close t tree c.views f a f.items long
-    (each-holds t tree c.views (parts f a) (λ id h. subst (λ (ids : List ℕ). Contains ids id) (sym is.views_named) h) is.usable.parents)))
+    (rows-owned t tree c.views ms (lines_of t.views (parts f a d)) first c.rows (lines-above t.views (parts f a d))
+    (lines-close t tree c.views (parts f a d) (parts-close t tree c.views f a d f.items long
+    (each-holds t tree c.views (parts f a d) (λ id h. subst (λ (ids : List ℕ). Contains ids id) (sym is.views_named) h) is.usable.parents)))
     is.rows)

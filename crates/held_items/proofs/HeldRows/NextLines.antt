@@ -7,6 +7,7 @@ use Rattle.span_text.specs.Objects as object
 use Rattle.vfl_text.specs.Formats.{FormatMeaning, PredMeaning}
 use Rattle.view_tree.specs.Views.{LiveView}
 use Rattle.script_text.specs.declared.words.Align.{Align}
+use Rattle.script_text.specs.declared.words.Direction.{Direction}
 use Rattle.script_text.specs.declared.words.AttrWord.{AttrWord}
 use Rattle.script_text.specs.Grammar.{decimal}
 use Rattle.script_text.specs.Meaning as mean
@@ -75,10 +76,10 @@ rows-among views ms [] n (r ∷ rows) above are = absurd are
 rows-among views ms (l ∷ lines) n [] above are = absurd are
 rows-among views ms (l ∷ lines) n (r ∷ rows) above are = (terms-among views (terms_of l) r above.0 are.0.is_row.sum, rows-among views ms lines (n + 1) rows above.1 are.1)
 
-pub format-next : (views : List LiveView) (ms : MetricList) (f : FormatMeaning) (align : Option Align) (first : ℕ) (c : CompiledLine) → AreOwned views c → IsCompiledFormat views ms f align first c → IsNextLine views first c
-format-next views ms f align first c owned is = record {
+pub format-next : (views : List LiveView) (ms : MetricList) (f : FormatMeaning) (align : Option Align) (d : Direction) (first : ℕ) (c : CompiledLine) → AreOwned views c → IsCompiledFormat views ms f align d first c → IsNextLine views first c
+format-next views ms f align d first c owned is = record {
   owned = owned;
-  ranks = All-from_recursion FormHasRank c.rows (rows-ranked views ms (lines_of views (parts f align)) first c.rows is.rows);
-  numbers = rows-numbered views ms (lines_of views (parts f align)) first c.rows is.rows;
-  attributes = All-from_recursion (IsAmong views) c.rows (rows-among views ms (lines_of views (parts f align)) first c.rows (lines-above views (parts f align)) is.rows);
+  ranks = All-from_recursion FormHasRank c.rows (rows-ranked views ms (lines_of views (parts f align d)) first c.rows is.rows);
+  numbers = rows-numbered views ms (lines_of views (parts f align d)) first c.rows is.rows;
+  attributes = All-from_recursion (IsAmong views) c.rows (rows-among views ms (lines_of views (parts f align d)) first c.rows (lines-above views (parts f align d)) is.rows);
 }

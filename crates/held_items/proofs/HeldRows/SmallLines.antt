@@ -5,6 +5,7 @@ use Rattle.std.specs.List.{AllByRecursion as Each}
 use Rattle.std.proofs.lemmas.List.Elements.{All-from_recursion}
 use Rattle.vfl_text.specs.Formats.{FormatMeaning}
 use Rattle.script_text.specs.declared.words.Align.{Align}
+use Rattle.script_text.specs.declared.words.Direction.{Direction}
 use Rattle.script_text.specs.Meaning.{Linear}
 use Rattle.view_tree.specs.Views.{LiveView}
 use Rattle.compile_parts.specs.Meaning.{MetricList}
@@ -25,5 +26,5 @@ each-small views metrics [] number (r ∷ rows) are = absurd are
 each-small views metrics (l ∷ lines) number [] are = absurd are
 each-small views metrics (l ∷ lines) number (r ∷ rows) are = (are.0.within.constants, each-small views metrics lines (number + 1) rows are.1)
 
-pub format-small : (views : List LiveView) (metrics : MetricList) (f : FormatMeaning) (align : Option Align) (first : ℕ) (c : CompiledLine) → IsCompiledFormat views metrics f align first c → AreSmallForms metrics c.rows
-format-small views metrics f align first c is = All-from_recursion (λ f. AreSmallSteps metrics f.steps) c.rows (each-small views metrics (lines_of views (parts f align)) first c.rows is.rows)
+pub format-small : (views : List LiveView) (metrics : MetricList) (f : FormatMeaning) (align : Option Align) (d : Direction) (first : ℕ) (c : CompiledLine) → IsCompiledFormat views metrics f align d first c → AreSmallForms metrics c.rows
+format-small views metrics f align d first c is = All-from_recursion (λ f. AreSmallSteps metrics f.steps) c.rows (each-small views metrics (lines_of views (parts f align d)) first c.rows is.rows)

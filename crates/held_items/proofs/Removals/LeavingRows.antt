@@ -1,5 +1,5 @@
 -- The rows of what stays are the rows that are left.
-use Rattle.std.proofs.Common.{◌≡◌, ◌≢◌, ◌||◌, inl, inr, ℕ, zero, suc, ◌<◌, Bool, true, false, cond, not, List, [], ◌∷◌, ◌++◌, map, filter, nat_eq, refl, sym, ap, ap₂, ◌∙◌, subst, arith, AllPairs, eq-eqb, ne_eqb}
+use Rattle.std.proofs.Common.{◌≡◌, ◌≢◌, ◌||◌, inl, inr, ℕ, zero, suc, ◌+◌, ◌<◌, Bool, true, false, cond, not, List, [], ◌∷◌, ◌++◌, map, filter, nat_eq, refl, sym, ap, ap₂, ◌∙◌, subst, arith, AllPairs, eq-eqb, ne_eqb}
 use Rattle.std.proofs.lemmas.Bool.{cases_eq}
 use Rattle.std.proofs.lemmas.List.{map-append}
 use Rattle.std.proofs.lemmas.List.Elements.{filter-append, All-from_recursion, recursion_from_All}
@@ -9,7 +9,7 @@ use Rattle.problem_core.specs.Layout.{Row}
 use Rattle.view_tree.specs.Drops.{is_among}
 use Rattle.compile_parts.specs.Meaning.{MetricList}
 use Rattle.constraint_compile.specs.Compiled.{RowForm}
-use Rattle.held_items.specs.Items.{Item, OfWindow, OfView, Sized, OfLine, Suggested, AreItemRows, AreRows}
+use Rattle.held_items.specs.Items.{Item, OfWindow, OfView, Sized, OfLine, Suggested, Intrinsic, AreItemRows, AreRows}
 use Rattle.held_items.specs.Leaving.{item_numbers, numbers_of, staying}
 use Rattle.held_items.proofs.Lists.{pairs-cons}
 use Rattle.held_items.proofs.HeldRows.NextRows.{form_shape, shapes-now}
@@ -131,6 +131,9 @@ item-ids ms (OfView first id) rows are = ap (map (λ (r : Row). r.id)) are
 item-ids ms (Sized first width height) rows are = ap (map (λ (r : Row). r.id)) are
 item-ids ms (OfLine group line) rows are = sym (row-ids rows) ∙ ap (map (λ (s : ℕ × List Term). s.0)) (shapes-now ms line.rows rows are.long are.each) ∙ form-ids line.rows
 item-ids ms (Suggested s) rows are = ap (map (λ (r : Row). r.id)) are
+item-ids ms (Intrinsic s) rows are =
+    let last : s.first_row + 2 + 1 ≡ s.first_row + 3 = omega arith in
+    ap (map (λ (r : Row). r.id)) are ∙ ap (λ (n : ℕ). s.first_row ∷ (s.first_row + 1) ∷ (s.first_row + 2) ∷ n ∷ []) last
 
 pub held-ids : (ms : MetricList) (held : List Item) (rows : List Row) → AreRows ms held rows → map (λ r. r.id) rows ≡ all_numbers held
 held-ids ms [] rows are = ap (map (λ (r : Row). r.id)) are

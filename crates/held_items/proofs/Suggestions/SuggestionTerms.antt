@@ -6,6 +6,7 @@ use Rattle.problem_core.specs.declared.parts.Term.{Term}
 use Rattle.problem_core.specs.Layout.{Row}
 use Rattle.problem_core.specs.Kept.{IsRow}
 use Rattle.view_tree.specs.Views.{LiveView, view_named}
+use Rattle.script_text.specs.Directions.{turned}
 use Rattle.script_text.specs.declared.words.AttrWord.{AttrWord}
 use Rattle.script_text.specs.declared.words.AttrWord.TheVariants as word
 use Rattle.constraint_compile.specs.Suggestions.{suggested_row, suggested_terms}
@@ -45,4 +46,4 @@ pub suggestion-may : (views : List LiveView) (next : ℕ) (s : Suggestion) (name
 suggestion-may views next s name v found same row is =
     one-may (all_attributes views) next (suggested_row s) is row
     (All-weaker (λ (t : Term). Contains (view_attributes s.view) t.attr) (λ (t : Term). Contains (all_attributes views) t.attr)
-    (λ t h. found-among views name v t.attr found (subst (λ (n : ℕ). Contains (view_attributes n) t.attr) same h)) (suggested_terms s.view s.word) (own-terms s.view s.word))
+    (λ t h. found-among views name v t.attr found (subst (λ (n : ℕ). Contains (view_attributes n) t.attr) same h)) (suggested_terms s.view (turned s.direction s.word)) (own-terms s.view (turned s.direction s.word)))

@@ -1,4 +1,4 @@
-// What leaves a scene: a group of lines, a suggestion, or a view with all below it.
+// What leaves a scene: a group of lines, a suggestion, a view's size, or a view with all below it.
 ghost use Rattle.std.specs.Prelude.{◌≡◌, ◌∷◌, ◌++◌, ◌<◌, ◌≤◌, length, All, IfOk, OnOk, OnErr, nat_eq};
 ghost use Rattle.std.specs.List.{list_any};
 ghost use Rattle.view_tree.specs.declared.limits.TheConstants.{ID_LIMIT};
@@ -9,6 +9,7 @@ ghost use Rattle.held_items.specs.declared.limits.TheConstants.{EARLIER};
 
 use crate::item::Item;
 use crate::item::coming::view_attributes;
+use crate::item::intrinsic::is_intrinsic;
 use crate::item::placing::remove_item;
 use crate::item::suggesting::is_suggestion;
 use crate::row_numbers::{HEIGHT_ROW, LEFT_ROW, TOP_ROW, WIDTH_ROW};
@@ -25,7 +26,8 @@ fn is_in_group(item: &Item, name: &[u8]) -> bool
 {
     match item {
         Item::OfLine { group, .. } => name == group.bytes(),
-        Item::OfWindow | Item::OfView { .. } | Item::Sized { .. } | Item::Suggested(_) => false,
+        Item::OfWindow | Item::OfView { .. } | Item::Sized { .. } => false,
+        Item::Suggested(_) | Item::Intrinsic(_) => false,
     }
 }
 
@@ -41,7 +43,8 @@ fn names_one(line: &Compiled, gone: &[u32]) -> bool
     false
 }
 
-// Whether the item is one of these views, a line whose text names one of them, or a suggestion for one.
+// Whether the item is one of these views, a line whose text names one of them, or a suggestion or a size of
+// one.
 fn goes_with(item: &Item, gone: &[u32]) -> bool
     ensures { result ≡ goes_with gone.now (item_of item.now) }
 {
@@ -49,6 +52,7 @@ fn goes_with(item: &Item, gone: &[u32]) -> bool
         Item::OfView { id, .. } => gone.contains(id),
         Item::OfLine { line, .. } => names_one(line, gone),
         Item::Suggested(suggestion) => gone.contains(&suggestion.view),
+        Item::Intrinsic(size) => gone.contains(&size.view),
         Item::OfWindow | Item::Sized { .. } => false,
     }
 }
@@ -78,6 +82,10 @@ pub fn push_numbers(numbers: &mut Vec<u32>, item: &Item) -> Result<(), OutOfMemo
         }
         Item::OfLine { line, .. } => line.push_numbers(numbers)?,
         Item::Suggested(suggestion) => numbers.push(suggestion.row)?,
+        Item::Intrinsic(size) => {
+            let row = size.first_row;
+            numbers.extend_from_slice(&[row, row + 1, row + 2, row + 3])?;
+        }
     }
     Ok(())
 }
@@ -87,10 +95,12 @@ pub fn push_numbers(numbers: &mut Vec<u32>, item: &Item) -> Result<(), OutOfMemo
 pub enum Leaver<'a> {
     /// The lines of a group.
     Group(&'a [u8]),
-    /// Views, the lines that name one of them, and their suggestions.
+    /// Views, the lines that name one of them, and their suggestions and sizes.
     Views(&'a [u32]),
     /// The suggestion of an attribute of a view.
     Suggestion(u32, AttrWord),
+    /// The size of a view.
+    Intrinsic(u32),
 }
 
 // Whether the item is one of those that leave.
@@ -101,6 +111,7 @@ fn is_leaving(item: &Item, leaver: Leaver<'_>) -> bool
         Leaver::Group(name) => is_in_group(item, name),
         Leaver::Views(gone) => goes_with(item, gone),
         Leaver::Suggestion(view, word) => is_suggestion(item, view, word),
+        Leaver::Intrinsic(view) => is_intrinsic(item, view),
     }
 }
 

@@ -31,9 +31,8 @@ fn item_constants(
 {
     match item {
         Item::OfLine { line, .. } => line.constants_naming(alloc, metrics, name),
-        Item::OfWindow | Item::OfView { .. } | Item::Sized { .. } | Item::Suggested(_) => {
-            Ok(Vec::new(alloc))
-        }
+        Item::OfWindow | Item::OfView { .. } | Item::Sized { .. } => Ok(Vec::new(alloc)),
+        Item::Suggested(_) | Item::Intrinsic(_) => Ok(Vec::new(alloc)),
     }
 }
 

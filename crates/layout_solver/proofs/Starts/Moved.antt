@@ -212,7 +212,7 @@ stay-holds n s y under over at =
 
 -- ---- lists
 
-each-unmap : {X Y : Type 0} (f : X → Y) (P : Y → Type 0) (xs : List X) → Each P (map f xs) → Each (λ x. P (f x)) xs
+pub each-unmap : {X Y : Type 0} (f : X → Y) (P : Y → Type 0) (xs : List X) → Each P (map f xs) → Each (λ x. P (f x)) xs
 each-unmap f P [] h = tt
 each-unmap f P (x ∷ xs) h = (h.0, each-unmap f P xs h.1)
 

@@ -56,7 +56,8 @@ fn are_covered(covered: &Attributes, terms: &[Term]) -> bool
 }
 
 impl Draft {
-    ghost use Rattle.problem_reading.specs.Problems.{nothing_read, Step, MayFollow, RowMayFollow, StayMayFollow};
+    ghost use Rattle.problem_reading.specs.Problems.{nothing_read, Step, MayFollow, RowMayFollow};
+    ghost use Rattle.problem_reading.specs.Problems.{StayMayFollow};
     ghost use Rattle.problem_reading.specs.Problems.{with_item};
 
     /// What was read before the first line: no row, and no stay.

@@ -5,7 +5,8 @@ ghost use Rattle.frac_core.specs.declared.memory.Stop.TheVariants.{OutOfMemory};
 ghost use Rattle.problem_core.specs.Layout as layout;
 ghost use Rattle.problem_core.specs.Kept.{IsWhole};
 ghost use Rattle.claim_writing.specs.Lines.{problem_text};
-ghost use Rattle.problem_reading.specs.declared.limits.TheConstants.{TEXT_LIMIT, TEXT_ROW_LIMIT, TEXT_STAY_LIMIT};
+ghost use Rattle.problem_reading.specs.declared.limits.TheConstants.{TEXT_LIMIT, TEXT_ROW_LIMIT};
+ghost use Rattle.problem_reading.specs.declared.limits.TheConstants.{TEXT_STAY_LIMIT};
 ghost use Rattle.problem_reading.specs.Problems.{Reads, IsProblemStop, AreStayAttributes};
 
 use crate::problem::attributes::{Attributes, stay_attributes};

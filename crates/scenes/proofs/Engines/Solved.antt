@@ -1,7 +1,6 @@
 -- What the engine's answers come to.
-use Rattle.std.proofs.Common.{◌≡◌, ℕ, ◌+◌, ◌*◌, ◌^◌, ◌≤◌, true, List, [], ◌++◌, map, Some, All, inl, inr, refl, sym, ap, ap₂, ◌∙◌, subst, arith}
+use Rattle.std.proofs.Common.{◌≡◌, ℕ, ◌+◌, ◌*◌, ◌^◌, ◌≤◌, List, [], ◌++◌, map, All, inl, inr, refl, sym, ap, ap₂, ◌∙◌, subst, arith}
 use Rattle.std.proofs.lemmas.List.Elements.{All-append}
-use Rattle.frac_core.specs.Fraction.{Fraction}
 use Rattle.problem_core.specs.declared.parts.Stay.{Stay}
 use Rattle.problem_core.specs.declared.parts.RowName.TheVariants.{Held}
 use Rattle.problem_core.specs.Layout.{Row, Problem, IsInConflict}
@@ -19,24 +18,24 @@ use Rattle.layout_solver.specs.declared.engine.Change.{Change}
 use Rattle.layout_solver.specs.Layouts.{Layout, AreBest, IsKeptLayout, stays_at, zeros, with_added}
 use Rattle.layout_solver.specs.Shifts.{shifted, with_shifts}
 use Rattle.diagnosis.specs.Probes.{NoConflict}
-use Rattle.held_items.specs.Items.{Item, Size, AreRows, rows_of_views, view_items, has_size, resized, size_of}
+use Rattle.held_items.specs.Items.{Item, AreRows, rows_of_views, view_items}
 use Rattle.problem_core.specs.Unfit.{without_constant}
-use Rattle.scenes.specs.Scene.{Scene, moved, AreDraftRows, with_window}
+use Rattle.scenes.specs.Scene.{Scene, moved, AreDraftRows}
 use Rattle.scenes.specs.Steps.{IsProblemOf, IsSolved, IsStart, IsStopped, LeadsTo}
 use Rattle.scenes.specs.Steps.{RunStopsAt, from_corner, from_shifts}
-use Rattle.scenes.specs.Drafts.{views_draft, metrics_draft}
+use Rattle.scenes.specs.Drafts.{views_draft}
 use Rattle.held_items.specs.Attributes.{IsCounted, attributes_from}
 use Rattle.held_items.specs.Kept.{IsItem, IsNamed}
 use Rattle.scenes.specs.Kept.{IsKept, scene_at}
-use Rattle.held_items.proofs.HeldRows.ItemRows.{all-resized-IsItem, all-resized-IsNamed}
 use Rattle.held_items.proofs.Views.ViewRows.{all-items, all-names, rows-come, rows-join}
 use Rattle.scenes.proofs.Engines.Moves.{moved-is, moved-still, moved-added}
 use Rattle.scenes.proofs.Views.NewViews.{views-possible}
 use Rattle.scenes.proofs.Engines.Reached.{settled}
-use Rattle.held_items.proofs.Constants.Resized.{shifted-size, some-held, to_size}
 use Rattle.layout_solver.proofs.Shifts.Constants.{shifted-alike}
 use Rattle.scenes.proofs.Engines.Wholes.{IsSettled}
 use Rattle.scenes.proofs.Removals.LeavingScenes.{parts, rows_is, stays_is}
+use Rattle.scenes.specs.declared.scene.past.Setting.{Setting}
+use Rattle.scenes.proofs.Settings.{later}
 
 -- the draft with the engine's rows and values
 pub solved-at : (scene draft : Scene) (held : List Item) (next : ℕ) (l : Layout) (start : Start) (budget : ℕ)
@@ -78,7 +77,7 @@ stops-at scene draft rows start stays budget s are is begins stops =
       stops = subst (λ (ss : List Stay). IsStopFrom start (record { rows = rows; stays = ss }) budget s) (sym is) stops;
     })
 
-module _ (tree : ViewTree) (ms : MetricList) (held : List Item) (next : ℕ) (l : Layout) (kept : IsKept (scene_at tree ms held next l)) (sound : IsKeptLayout l) where
+module _ (tree : ViewTree) (ms : MetricList) (held : List Item) (setting : Setting) (l : Layout) (kept : IsKept (scene_at tree ms held setting l)) (sound : IsKeptLayout l) where
   pub is : IsSettled l.problem l.values
   is = settled l sound
 
@@ -86,11 +85,11 @@ module _ (tree : ViewTree) (ms : MetricList) (held : List Item) (next : ℕ) (l 
   still = moved-still l.problem.stays l.values is.attributes is.rising
 
   -- more rows join at the kept corner
-  pub kept-start : (rows more : List Row) → rows ≡ l.problem.rows ++ more → IsStart (scene_at tree ms held next l) rows (from_corner l more)
+  pub kept-start : (rows more : List Row) → rows ≡ l.problem.rows ++ more → IsStart (scene_at tree ms held setting l) rows (from_corner l more)
   kept-start rows more e = record { before = refl; kept = refl; way = inl (record { primal = refl; parts = e }) }
 
   -- constants change at the kept corner
-  pub shift-start : (rows : List Row) (to : List Change) → rows ≡ shifted to l.problem.rows → IsStart (scene_at tree ms held next l) rows (from_shifts l)
+  pub shift-start : (rows : List Row) (to : List Change) → rows ≡ shifted to l.problem.rows → IsStart (scene_at tree ms held setting l) rows (from_shifts l)
   shift-start rows to e = record { before = refl; kept = refl; way = inr (record { dual = refl; none = refl; alike = ap (map without_constant) e ∙ shifted-alike to l.problem.rows }) }
 
   abbrev Run : List Row → Layout → ℕ → Type 0
@@ -100,132 +99,90 @@ module _ (tree : ViewTree) (ms : MetricList) (held : List Item) (next : ℕ) (l 
   RunShifts new budget = LeadsTo (from_shifts l) new budget
 
   abbrev Solved : Scene → ℕ → Scene → Type 0
-  Solved draft budget new = (path : Path) × IsSolved (scene_at tree ms held next l) draft budget path new
+  Solved draft budget new = (path : Path) × IsSolved (scene_at tree ms held setting l) draft budget path new
 
   pub moves : moved l.problem.stays l.values ≡ stays_at l.values
   moves = moved-is l.problem.stays l.values is.attributes is.rising
 
-  pub shift-stops : (draft : Scene) (to : List Change) (budget : ℕ) (s : RunStop) → AreDraftRows draft (shifted to l.problem.rows) → draft.stays ≡ stays_at l.values → IsStopFrom (from_shifts l) (with_shifts l to) budget s
-      → RunStopsAt (scene_at tree ms held next l) draft budget s
-  shift-stops draft to budget s are same stops =
-      stops-at (scene_at tree ms held next l) draft (shifted to l.problem.rows) (from_shifts l) (stays_at l.values) budget s are same (shift-start (shifted to l.problem.rows) to refl) stops
-
   -- ---- views
 
-  views-are : (id n : ℕ) (more : List Row) → more ≡ rows_of_views next id n → AreRows ms (held ++ view_items next id n) (l.problem.rows ++ more)
-  views-are id n more more_is = rows-join ms held (view_items next id n) l.problem.rows more kept.are_rows (subst (AreRows ms (view_items next id n)) (sym more_is) (rows-come ms next id n))
+  views-are : (id n : ℕ) (more : List Row) → more ≡ rows_of_views setting.next_row id n → AreRows ms (held ++ view_items setting.next_row id n) (l.problem.rows ++ more)
+  views-are id n more more_is = rows-join ms held (view_items setting.next_row id n) l.problem.rows more kept.are_rows (subst (AreRows ms (view_items setting.next_row id n)) (sym more_is) (rows-come ms setting.next_row id n))
 
   views-move : (id n : ℕ) → moved l.problem.stays l.values ++ stays_at (zeros (attributes_from id n)) ≡ stays_at (l.values ++ zeros (attributes_from id n))
   views-move id n = moved-added l.problem.stays l.values (attributes_from id n) is.attributes is.rising
 
-  pub views-stops : (new_tree : ViewTree) (id n : ℕ) (more : List Row) (budget : ℕ) (s : RunStop) → more ≡ rows_of_views next id n → IsStopFrom (from_corner l more) (with_added l (attributes_from id n) more) budget s
-      → RunStopsAt (scene_at tree ms held next l) (views_draft (scene_at tree ms held next l) new_tree id n) budget s
+  pub views-stops : (new_tree : ViewTree) (id n : ℕ) (more : List Row) (budget : ℕ) (s : RunStop) → more ≡ rows_of_views setting.next_row id n → IsStopFrom (from_corner l more) (with_added l (attributes_from id n) more) budget s
+      → RunStopsAt (scene_at tree ms held setting l) (views_draft (scene_at tree ms held setting l) new_tree id n) budget s
   views-stops new_tree id n more budget s more_is stops =
-      stops-at (scene_at tree ms held next l) (views_draft (scene_at tree ms held next l) new_tree id n) (l.problem.rows ++ more) (from_corner l more) (stays_at (l.values ++ zeros (attributes_from id n))) budget s
+      stops-at (scene_at tree ms held setting l) (views_draft (scene_at tree ms held setting l) new_tree id n) (l.problem.rows ++ more) (from_corner l more) (stays_at (l.values ++ zeros (attributes_from id n))) budget s
       (views-are id n more more_is) (views-move id n) (kept-start (l.problem.rows ++ more) more refl) stops
 
-  pub views-solved : (new_tree : ViewTree) (items : List Item) (new : Layout) (id n : ℕ) (more : List Row) (budget : ℕ) → more ≡ rows_of_views next id n → new.problem ≡ with_added l (attributes_from id n) more
-      → AreBest new.problem new.values → Run more new budget → items ≡ held ++ view_items next id n
-      → Solved (views_draft (scene_at tree ms held next l) new_tree id n) budget (scene_at new_tree ms items (next + 2 * n) new)
+  pub views-solved : (new_tree : ViewTree) (items : List Item) (new : Layout) (id n : ℕ) (more : List Row) (budget : ℕ) → more ≡ rows_of_views setting.next_row id n → new.problem ≡ with_added l (attributes_from id n) more
+      → AreBest new.problem new.values → Run more new budget → items ≡ held ++ view_items setting.next_row id n
+      → Solved (views_draft (scene_at tree ms held setting l) new_tree id n) budget (scene_at new_tree ms items (later setting (2 * n)) new)
   views-solved new_tree items new id n more budget more_is done best runs items_is =
-      solved-at (scene_at tree ms held next l) (views_draft (scene_at tree ms held next l) new_tree id n) items (next + 2 * n) new (from_corner l more) budget items_is refl
+      solved-at (scene_at tree ms held setting l) (views_draft (scene_at tree ms held setting l) new_tree id n) items (setting.next_row + 2 * n) new (from_corner l more) budget items_is refl
       (stays_is new.problem (with_added l (attributes_from id n) more) done ∙ sym (views-move id n))
-      (subst (AreRows ms (held ++ view_items next id n)) (sym (rows_is new.problem (with_added l (attributes_from id n) more) done)) (views-are id n more more_is))
+      (subst (AreRows ms (held ++ view_items setting.next_row id n)) (sym (rows_is new.problem (with_added l (attributes_from id n) more) done)) (views-are id n more more_is))
       best (kept-start new.problem.rows more (rows_is new.problem (with_added l (attributes_from id n) more) done)) runs
 
-  pub views-kept : (new_tree : ViewTree) (items : List Item) (new : Layout) (id n : ℕ) (more : List Row) → All (IsNamed new_tree.views) held → more ≡ rows_of_views next id n → id + n ≤ 2 ^ 29 → next + 2 * n ≤ 2 ^ 31
-      → new.problem ≡ with_added l (attributes_from id n) more → items ≡ held ++ view_items next id n → IsCounted new_tree.views (next + 2 * n) new.problem → IsKept (scene_at new_tree ms items (next + 2 * n) new)
+  pub views-kept : (new_tree : ViewTree) (items : List Item) (new : Layout) (id n : ℕ) (more : List Row) → All (IsNamed new_tree.views) held → more ≡ rows_of_views setting.next_row id n → id + n ≤ 2 ^ 29 → setting.next_row + 2 * n ≤ 2 ^ 31
+      → new.problem ≡ with_added l (attributes_from id n) more → items ≡ held ++ view_items setting.next_row id n → IsCounted new_tree.views (setting.next_row + 2 * n) new.problem → IsKept (scene_at new_tree ms items (later setting (2 * n)) new)
   views-kept new_tree items new id n more named more_is small below done items_is counted =
-      subst (λ (hs : List Item). IsKept (scene_at new_tree ms hs (next + 2 * n) new)) (sym items_is)
+      subst (λ (hs : List Item). IsKept (scene_at new_tree ms hs (later setting (2 * n)) new)) (sym items_is)
       (record {
-        are_rows = subst (AreRows ms (held ++ view_items next id n)) (sym (rows_is new.problem (with_added l (attributes_from id n) more) done)) (views-are id n more more_is);
-        each = All-append IsItem held (view_items next id n) kept.each (all-items next id n kept.next below small);
-        named = All-append (IsNamed new_tree.views) held (view_items next id n) named (all-names new_tree.views next id n);
+        are_rows = subst (AreRows ms (held ++ view_items setting.next_row id n)) (sym (rows_is new.problem (with_added l (attributes_from id n) more) done)) (views-are id n more more_is);
+        each = All-append IsItem held (view_items setting.next_row id n) kept.each (all-items setting.next_row id n kept.next below small);
+        named = All-append (IsNamed new_tree.views) held (view_items setting.next_row id n) named (all-names new_tree.views setting.next_row id n);
         next = omega (arith, kept.next);
         top = below;
         counted = counted;
       })
 
-  -- ---- the window's later sizes
+  -- ---- other constants
 
-  abbrev again-draft : Fraction → Fraction → Scene
-  again-draft w h = record (scene_at tree ms held next l) { held = resized w h held; stays = moved l.problem.stays l.values }
+  -- by these changes the rows become those of other items, or for other metrics
+  module _ (new_ms : MetricList) (others : List Item) (to : List Change) (are : AreRows new_ms others (shifted to l.problem.rows)) where
+    abbrev changed : Scene
+    changed = record (scene_at tree ms held setting l) { metrics = new_ms; held = others; stays = moved l.problem.stays l.values }
 
-  again-draft-is : (w h : Fraction) → has_size held ≡ true → with_window (scene_at tree ms held next l) w h ≡ again-draft w h
-  again-draft-is w h some = rw some refl
+    changed-are : (new : Layout) → new.problem ≡ with_shifts l to → AreRows new_ms others new.problem.rows
+    changed-are new done = subst (AreRows new_ms others) (sym (rows_is new.problem (with_shifts l to) done)) are
 
-  again-rows : (w h : Fraction) (size : Size) → size_of held ≡ Some size → AreRows ms (resized w h held) (shifted (to_size size.first_row w h) l.problem.rows)
-  again-rows w h size some = shifted-size ms held l.problem.rows w h size kept.are_rows some is.whole.rising
+    pub changed-stops : (budget : ℕ) (s : RunStop) → IsStopFrom (from_shifts l) (with_shifts l to) budget s
+        → RunStopsAt (scene_at tree ms held setting l) (record (scene_at tree ms held setting l) { metrics = new_ms; held = others; stays = moved l.problem.stays l.values }) budget s
+    changed-stops budget s stops =
+        stops-at (scene_at tree ms held setting l) changed (shifted to l.problem.rows) (from_shifts l) (stays_at l.values) budget s are moves (shift-start (shifted to l.problem.rows) to refl) stops
 
-  again-are : (new : Layout) (w h : Fraction) (size : Size) → size_of held ≡ Some size → new.problem ≡ with_shifts l (to_size size.first_row w h) → AreRows ms (resized w h held) new.problem.rows
-  again-are new w h size some done =
-      subst (AreRows ms (resized w h held)) (sym (rows_is new.problem (with_shifts l (to_size size.first_row w h)) done)) (again-rows w h size some)
-
-  pub again-stops : (w h : Fraction) (size : Size) (budget : ℕ) (s : RunStop) → size_of held ≡ Some size → IsStopFrom (from_shifts l) (with_shifts l (to_size size.first_row w h)) budget s
-      → RunStopsAt (scene_at tree ms held next l) (with_window (scene_at tree ms held next l) w h) budget s
-  again-stops w h size budget s some stops =
-      subst (λ (d : Scene). RunStopsAt (scene_at tree ms held next l) d budget s) (sym (again-draft-is w h (some-held held size some)))
-      (shift-stops (again-draft w h) (to_size size.first_row w h) budget s (again-rows w h size some) moves stops)
-
-  pub again-solved : (items : List Item) (new : Layout) (w h : Fraction) (size : Size) (budget : ℕ) → size_of held ≡ Some size → new.problem ≡ with_shifts l (to_size size.first_row w h)
-      → AreBest new.problem new.values → RunShifts new budget → items ≡ resized w h held
-      → Solved (with_window (scene_at tree ms held next l) w h) budget (scene_at tree ms items next new)
-  again-solved items new w h size budget some done best runs items_is =
-      subst (λ (d : Scene). Solved d budget (scene_at tree ms items next new)) (sym (again-draft-is w h (some-held held size some)))
-      (solved-at (scene_at tree ms held next l) (again-draft w h) items next new (from_shifts l) budget items_is refl (stays_is new.problem (with_shifts l (to_size size.first_row w h)) done ∙ sym moves)
-      (again-are new w h size some done) best
-      (shift-start new.problem.rows (to_size size.first_row w h) (rows_is new.problem (with_shifts l (to_size size.first_row w h)) done)) runs)
-
-  pub again-kept : (items : List Item) (new : Layout) (w h : Fraction) (size : Size) → size_of held ≡ Some size → new.problem ≡ with_shifts l (to_size size.first_row w h) → items ≡ resized w h held
-      → IsCounted tree.views next new.problem → IsKept (scene_at tree ms items next new)
-  again-kept items new w h size some done items_is counted =
-      subst (λ (hs : List Item). IsKept (scene_at tree ms hs next new)) (sym items_is)
-      (record { are_rows = again-are new w h size some done; each = all-resized-IsItem w h held kept.each; named = all-resized-IsNamed tree.views w h held kept.named; next = kept.next; top = kept.top; counted = counted })
-
-  -- ---- metrics
-
-  module _ (new_ms : MetricList) (to : List Change) (are : AreRows new_ms held (shifted to l.problem.rows)) where
-    metric-are : (new : Layout) → new.problem ≡ with_shifts l to → AreRows new_ms held new.problem.rows
-    metric-are new done = subst (AreRows new_ms held) (sym (rows_is new.problem (with_shifts l to) done)) are
-
-    pub metric-stops : (budget : ℕ) (s : RunStop) → IsStopFrom (from_shifts l) (with_shifts l to) budget s → RunStopsAt (scene_at tree ms held next l) (metrics_draft (scene_at tree ms held next l) new_ms) budget s
-    metric-stops budget s stops = shift-stops (metrics_draft (scene_at tree ms held next l) new_ms) to budget s are moves stops
-
-    pub metric-solved : (new : Layout) (budget : ℕ) → new.problem ≡ with_shifts l to → AreBest new.problem new.values → RunShifts new budget
-        → Solved (metrics_draft (scene_at tree ms held next l) new_ms) budget (scene_at tree new_ms held next new)
-    metric-solved new budget done best runs =
-        solved-at (scene_at tree ms held next l) (metrics_draft (scene_at tree ms held next l) new_ms) held next new (from_shifts l) budget refl refl (stays_is new.problem (with_shifts l to) done ∙ sym moves)
-        (metric-are new done) best
+    pub changed-solved : (items : List Item) (new : Layout) (budget : ℕ) → new.problem ≡ with_shifts l to → AreBest new.problem new.values → RunShifts new budget → items ≡ others
+        → Solved (record (scene_at tree ms held setting l) { metrics = new_ms; held = others; stays = moved l.problem.stays l.values }) budget (scene_at tree new_ms items setting new)
+    changed-solved items new budget done best runs items_is =
+        solved-at (scene_at tree ms held setting l) changed items setting.next_row new (from_shifts l) budget items_is refl (stays_is new.problem (with_shifts l to) done ∙ sym moves)
+        (changed-are new done) best
         (shift-start new.problem.rows to (rows_is new.problem (with_shifts l to) done)) runs
 
-    pub metric-kept : (new : Layout) → new.problem ≡ with_shifts l to → IsCounted tree.views next new.problem → IsKept (scene_at tree new_ms held next new)
-    metric-kept new done counted = record { are_rows = metric-are new done; each = kept.each; named = kept.named; next = kept.next; top = kept.top; counted = counted }
+    pub changed-kept : (items : List Item) (new : Layout) → new.problem ≡ with_shifts l to → items ≡ others → All IsItem others → All (IsNamed tree.views) others → IsCounted tree.views setting.next_row new.problem
+        → IsKept (scene_at tree new_ms items setting new)
+    changed-kept items new done items_is each named counted =
+        subst (λ (hs : List Item). IsKept (scene_at tree new_ms hs setting new)) (sym items_is)
+        (record { are_rows = changed-are new done; each = each; named = named; next = kept.next; top = kept.top; counted = counted })
 
-    pub metric-posed : (rows : List Row) (p : Problem) → rows ≡ shifted to l.problem.rows → p ≡ record { rows = rows; stays = stays_at l.values } → IsProblemOf (metrics_draft (scene_at tree ms held next l) new_ms) p
-    metric-posed rows p shifts made = (
-      subst (AreRows new_ms held) (sym (rows_is p (record { rows = rows; stays = stays_at l.values }) made ∙ shifts)) are,
+    pub changed-posed : (rows : List Row) (p : Problem) → rows ≡ shifted to l.problem.rows → p ≡ record { rows = rows; stays = stays_at l.values }
+        → IsProblemOf (record (scene_at tree ms held setting l) { metrics = new_ms; held = others; stays = moved l.problem.stays l.values }) p
+    changed-posed rows p shifts made = (
+      subst (AreRows new_ms others) (sym (rows_is p (record { rows = rows; stays = stays_at l.values }) made ∙ shifts)) are,
       stays_is p (record { rows = rows; stays = stays_at l.values }) made ∙ sym moves,
     )
 
   -- ---- what a command would solve
 
-  pub views-posed : (new_tree : ViewTree) (id n : ℕ) (more : List Row) (p : Problem) → more ≡ rows_of_views next id n → p ≡ with_added l (attributes_from id n) more
-      → IsProblemOf (views_draft (scene_at tree ms held next l) new_tree id n) p
+  pub views-posed : (new_tree : ViewTree) (id n : ℕ) (more : List Row) (p : Problem) → more ≡ rows_of_views setting.next_row id n → p ≡ with_added l (attributes_from id n) more
+      → IsProblemOf (views_draft (scene_at tree ms held setting l) new_tree id n) p
   views-posed new_tree id n more p more_is made = (
-    subst (AreRows ms (held ++ view_items next id n)) (sym (rows_is p (with_added l (attributes_from id n) more) made)) (views-are id n more more_is),
+    subst (AreRows ms (held ++ view_items setting.next_row id n)) (sym (rows_is p (with_added l (attributes_from id n) more) made)) (views-are id n more more_is),
     stays_is p (with_added l (attributes_from id n) more) made ∙ sym (views-move id n),
   )
-
-  abbrev At : List Row → Problem
-  At rows = record { rows = rows; stays = stays_at l.values }
-
-  pub again-posed : (w h : Fraction) (size : Size) (rows : List Row) (p : Problem) → size_of held ≡ Some size → rows ≡ shifted (to_size size.first_row w h) l.problem.rows → p ≡ At rows
-      → IsProblemOf (with_window (scene_at tree ms held next l) w h) p
-  again-posed w h size rows p some shifts made =
-      subst (λ (d : Scene). IsProblemOf d p) (sym (again-draft-is w h (some-held held size some))) (
-        subst (AreRows ms (resized w h held)) (sym (rows_is p (At rows) made ∙ shifts)) (again-rows w h size some),
-        stays_is p (At rows) made ∙ sym moves,
-      )
 
 -- ---- views that come are in no conflict
 

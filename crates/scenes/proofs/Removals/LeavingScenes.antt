@@ -15,7 +15,7 @@ use Rattle.layout_solver.specs.Layouts.{Layout, AreBest, IsKeptLayout, stays_at}
 use Rattle.layout_solver.specs.Removals.{CanLeave, HasRemoved, IsRemoveStop, Leaving, stood, with_removed}
 use Rattle.layout_solver.specs.declared.removing.RemoveStop.{RemoveStop}
 use Rattle.layout_solver.specs.declared.removing.RemoveStop.TheVariants as removal
-use Rattle.held_items.specs.Items.{Item, OfWindow, OfView, Sized, OfLine, Suggested, AreRows}
+use Rattle.held_items.specs.Items.{Item, OfWindow, OfView, Sized, OfLine, Suggested, Intrinsic, AreRows}
 use Rattle.scenes.specs.Scene.{Scene, AreDraftRows, moved}
 use Rattle.held_items.specs.Leaving.{attributes_in, goes_with, numbers_of, other_stays, staying}
 use Rattle.scenes.specs.Leaving.{stood_of, without_items, without_views}
@@ -32,6 +32,7 @@ use Rattle.held_items.proofs.HeldRows.Ranks.{HasRank}
 use Rattle.scenes.proofs.Engines.Reached.{settled}
 use Rattle.scenes.proofs.Engines.Wholes.{IsSettled}
 use Rattle.corner.proofs.Corners.NewCorners.{made_problem}
+use Rattle.scenes.specs.declared.scene.past.Setting.{Setting}
 
 abbrev pub parts : Scene → List Item → ℕ → Layout → Scene
 parts draft held next l = record draft { held = held; next_row = next; rows = l.problem.rows; stays = l.problem.stays; values = l.values; corner = l.corner }
@@ -84,14 +85,14 @@ moved-attrs (s ∷ stays) values = ap (λ ns. s.attr ∷ ns) (moved-attrs stays 
 
 -- ---- rows leave alone, as those made_problem a group or made_problem a suggestion
 
-module _ (tree : ViewTree) (ms : MetricList) (held : List Item) (next : ℕ) (l : Layout) (kept : IsKept (scene_at tree ms held next l)) (sound : IsKeptLayout l) where
+module _ (tree : ViewTree) (ms : MetricList) (held : List Item) (setting : Setting) (l : Layout) (kept : IsKept (scene_at tree ms held setting l)) (sound : IsKeptLayout l) where
   is : IsSettled l.problem l.values
   is = settled l sound
 
   moves : moved l.problem.stays l.values ≡ stays_at l.values
   moves = moved-is l.problem.stays l.values is.attributes is.rising
 
-  pub stands : stood l ≡ stood_of (scene_at tree ms held next l)
+  pub stands : stood l ≡ stood_of (scene_at tree ms held setting l)
   stands = ap (made_problem l.problem.rows) (sym moves)
 
   module _ (goes : Item → Bool) where
@@ -108,20 +109,20 @@ module _ (tree : ViewTree) (ms : MetricList) (held : List Item) (next : ℕ) (l 
     group-problem = without-is group_leaving (stood l) ∙ ap (made_problem (filter (keeps (numbers_of goes held)) l.problem.rows)) (no-stays-leave (stays_at l.values) ∙ sym moves)
 
     group-leaves : (rows : List Row) → rows ≡ filter (keeps (numbers_of goes held)) l.problem.rows
-        → IsLeaving (scene_at tree ms held next l) (without_items (scene_at tree ms held next l) goes) rows group_leaving
+        → IsLeaving (scene_at tree ms held setting l) (without_items (scene_at tree ms held setting l) goes) rows group_leaving
     group-leaves rows rows_are = record {
-      can = rows-can goes ms held (stood_of (scene_at tree ms held next l)) kept.are_rows is.whole.rising;
+      can = rows-can goes ms held (stood_of (scene_at tree ms held setting l)) kept.are_rows is.whole.rising;
       rising = up-pairs (numbers_of goes held) (numbers-up goes ms held l.problem kept.are_rows is.whole.rising);
-      left = ap₂ made_problem rows_are (sym (no-stays-leave (moved l.problem.stays l.values))) ∙ sym (without-is group_leaving (stood_of (scene_at tree ms held next l)));
+      left = ap₂ made_problem rows_are (sym (no-stays-leave (moved l.problem.stays l.values))) ∙ sym (without-is group_leaving (stood_of (scene_at tree ms held setting l)));
     }
 
-    pub group-poses : (p : Problem) → p ≡ with_removed l group_leaving → IsProblemOf (without_items (scene_at tree ms held next l) goes) p
+    pub group-poses : (p : Problem) → p ≡ with_removed l group_leaving → IsProblemOf (without_items (scene_at tree ms held setting l) goes) p
     group-poses p e = (subst (AreRows ms (staying goes held)) (sym (rows_is p _ (e ∙ group-problem))) group-rows, stays_is p _ (e ∙ group-problem))
 
     pub group-stops : (budget : ℕ) (s : RemoveStop) → IsRemoveStop (stood l) l.corner group_leaving budget s
-        → LeaveStopsAt (scene_at tree ms held next l) (without_items (scene_at tree ms held next l) goes) budget s
+        → LeaveStopsAt (scene_at tree ms held setting l) (without_items (scene_at tree ms held setting l) goes) budget s
     group-stops budget s stops =
-        left-stops (scene_at tree ms held next l) (without_items (scene_at tree ms held next l) goes) (filter (keeps (numbers_of goes held)) l.problem.rows) l group_leaving budget s
+        left-stops (scene_at tree ms held setting l) (without_items (scene_at tree ms held setting l) goes) (filter (keeps (numbers_of goes held)) l.problem.rows) l group_leaving budget s
         group-rows (group-leaves (filter (keeps (numbers_of goes held)) l.problem.rows) refl) stands refl stops
 
     module _ (items : List Item) (new : Layout) (done : new.problem ≡ with_removed l group_leaving) (items_are : items ≡ staying goes held) where
@@ -135,14 +136,14 @@ module _ (tree : ViewTree) (ms : MetricList) (held : List Item) (next : ℕ) (l 
       are = subst (AreRows ms (staying goes held)) (sym rows_are) group-rows
 
       pub group-left : (budget : ℕ) → AreBest new.problem new.values → HasRun l new group_leaving budget
-          → HasLeft (scene_at tree ms held next l) (without_items (scene_at tree ms held next l) goes) budget (scene_at tree ms items next new)
+          → HasLeft (scene_at tree ms held setting l) (without_items (scene_at tree ms held setting l) goes) budget (scene_at tree ms items setting new)
       group-left budget best run =
-          left-at (scene_at tree ms held next l) (without_items (scene_at tree ms held next l) goes) items next l new group_leaving budget
+          left-at (scene_at tree ms held setting l) (without_items (scene_at tree ms held setting l) goes) items setting.next_row l new group_leaving budget
           items_are refl stays_are are best (group-leaves new.problem.rows rows_are) stands refl run
 
-      pub group-kept : IsKept (scene_at tree ms items next new)
+      pub group-kept : IsKept (scene_at tree ms items setting new)
       group-kept =
-          subst (λ (hs : List Item). IsKept (scene_at tree ms hs next new)) (sym items_are)
+          subst (λ (hs : List Item). IsKept (scene_at tree ms hs setting new)) (sym items_are)
           (record {
             are_rows = are;
             each = All-filter (λ item. not (goes item)) IsItem held kept.each;
@@ -151,7 +152,7 @@ module _ (tree : ViewTree) (ms : MetricList) (held : List Item) (next : ℕ) (l 
             top = kept.top;
             counted = record {
               stays = ap (map (λ (s : Stay). s.attr)) stays_are ∙ moved-attrs l.problem.stays l.values ∙ kept.counted.stays;
-              below = subst (All (λ r. r.id < next)) (sym rows_are) (All-filter (keeps (numbers_of goes held)) (λ r. r.id < next) l.problem.rows kept.counted.below);
+              below = subst (All (λ r. r.id < setting.next_row)) (sym rows_are) (All-filter (keeps (numbers_of goes held)) (λ r. r.id < setting.next_row) l.problem.rows kept.counted.below);
               ranks = subst (All HasRank) (sym rows_are) (All-filter (keeps (numbers_of goes held)) HasRank l.problem.rows kept.counted.ranks);
               few = omega (arith, ap length rows_are, shorter (keeps (numbers_of goes held)) l.problem.rows, kept.counted.few);
             };
@@ -182,6 +183,7 @@ module _ (views : List LiveView) (gone : List ℕ) where
   named-left (Sized first width height) stays is = is
   named-left (OfLine name line) stays is = λ k d within j e inside. (let owner = is k d within j e inside in (owner.0, close-left line.views owner.0 stays owner.1, owner.2))
   named-left (Suggested s) stays is = is
+  named-left (Intrinsic s) stays is = is
 
   each-named-left : (held : List Item) → Each (IsNamed views) held → Each (IsNamed (filter (λ v. not (is_among gone v.id)) views)) (staying (goes_with gone) held)
   each-named-left [] h = tt
@@ -194,7 +196,7 @@ module _ (views : List LiveView) (gone : List ℕ) where
   pub all-named-left : (held : List Item) → All (IsNamed views) held → All (IsNamed (filter (λ v. not (is_among gone v.id)) views)) (staying (goes_with gone) held)
   all-named-left held h = All-from_recursion (IsNamed (filter (λ v. not (is_among gone v.id)) views)) (staying (goes_with gone) held) (each-named-left held (recursion_from_All (IsNamed views) held h))
 
-module _ (tree : ViewTree) (ms : MetricList) (held : List Item) (next : ℕ) (l : Layout) (kept : IsKept (scene_at tree ms held next l)) (sound : IsKeptLayout l)
+module _ (tree : ViewTree) (ms : MetricList) (held : List Item) (setting : Setting) (l : Layout) (kept : IsKept (scene_at tree ms held setting l)) (sound : IsKeptLayout l)
     (whole : IsTree tree) (root : ℕ) (gone : List ℕ) (below : root ≢ 0) (going : AreGoing tree.views root gone) where
   is-settled : IsSettled l.problem l.values
   is-settled = settled l sound
@@ -232,23 +234,23 @@ module _ (tree : ViewTree) (ms : MetricList) (held : List Item) (next : ℕ) (l 
   views-problem = without-is views_leaving (stood l) ∙ ap (λ ss. made_problem (filter (keeps (numbers_of (goes_with gone) held)) l.problem.rows) (other_stays (attributes_in gone) ss)) (sym moves-to)
 
   views-leave : (rows : List Row) → rows ≡ filter (keeps (numbers_of (goes_with gone) held)) l.problem.rows
-      → IsLeaving (scene_at tree ms held next l) (without_views (scene_at tree ms held next l) gone) rows views_leaving
+      → IsLeaving (scene_at tree ms held setting l) (without_views (scene_at tree ms held setting l) gone) rows views_leaving
   views-leave rows rows_are = record {
     can = can-leave (moved l.problem.stays l.values) (moved-attrs l.problem.stays l.values ∙ kept.counted.stays);
     rising = up-pairs (numbers_of (goes_with gone) held) (numbers-up (goes_with gone) ms held l.problem kept.are_rows is-settled.whole.rising);
-    left = ap (λ rs. made_problem rs (other_stays (attributes_in gone) (moved l.problem.stays l.values))) rows_are ∙ sym (without-is views_leaving (stood_of (scene_at tree ms held next l)));
+    left = ap (λ rs. made_problem rs (other_stays (attributes_in gone) (moved l.problem.stays l.values))) rows_are ∙ sym (without-is views_leaving (stood_of (scene_at tree ms held setting l)));
   }
 
-  pub views-pose : (p : Problem) → p ≡ with_removed l views_leaving → IsProblemOf (without_views (scene_at tree ms held next l) gone) p
+  pub views-pose : (p : Problem) → p ≡ with_removed l views_leaving → IsProblemOf (without_views (scene_at tree ms held setting l) gone) p
   views-pose p e = (subst (AreRows ms (staying (goes_with gone) held)) (sym (rows_is p _ (e ∙ views-problem))) view-rows, stays_is p _ (e ∙ views-problem))
 
-  stands-to : stood l ≡ stood_of (scene_at tree ms held next l)
+  stands-to : stood l ≡ stood_of (scene_at tree ms held setting l)
   stands-to = ap (made_problem l.problem.rows) (sym moves-to)
 
   pub views-stop : (budget : ℕ) (s : RemoveStop) → IsRemoveStop (stood l) l.corner views_leaving budget s
-      → LeaveStopsAt (scene_at tree ms held next l) (without_views (scene_at tree ms held next l) gone) budget s
+      → LeaveStopsAt (scene_at tree ms held setting l) (without_views (scene_at tree ms held setting l) gone) budget s
   views-stop budget s stops =
-      left-stops (scene_at tree ms held next l) (without_views (scene_at tree ms held next l) gone) (filter (keeps (numbers_of (goes_with gone) held)) l.problem.rows) l views_leaving budget s
+      left-stops (scene_at tree ms held setting l) (without_views (scene_at tree ms held setting l) gone) (filter (keeps (numbers_of (goes_with gone) held)) l.problem.rows) l views_leaving budget s
       view-rows (views-leave (filter (keeps (numbers_of (goes_with gone) held)) l.problem.rows) refl) stands-to refl stops
 
   module _ (items : List Item) (new : Layout) (done : new.problem ≡ with_removed l views_leaving) (items_are : items ≡ staying (goes_with gone) held) where
@@ -262,14 +264,14 @@ module _ (tree : ViewTree) (ms : MetricList) (held : List Item) (next : ℕ) (l 
     are-rows = subst (AreRows ms (staying (goes_with gone) held)) (sym new_rows) view-rows
 
     pub views-left : (budget : ℕ) → AreBest new.problem new.values → HasRun l new views_leaving budget
-        → HasLeft (scene_at tree ms held next l) (without_views (scene_at tree ms held next l) gone) budget (scene_at (drops.without tree gone) ms items next new)
+        → HasLeft (scene_at tree ms held setting l) (without_views (scene_at tree ms held setting l) gone) budget (scene_at (drops.without tree gone) ms items setting new)
     views-left budget best run =
-        left-at (scene_at tree ms held next l) (without_views (scene_at tree ms held next l) gone) items next l new views_leaving budget
+        left-at (scene_at tree ms held setting l) (without_views (scene_at tree ms held setting l) gone) items setting.next_row l new views_leaving budget
         items_are refl new_stays are-rows best (views-leave new.problem.rows new_rows) stands-to refl run
 
-    pub views-kept : IsKept (scene_at (drops.without tree gone) ms items next new)
+    pub views-kept : IsKept (scene_at (drops.without tree gone) ms items setting new)
     views-kept =
-        subst (λ (hs : List Item). IsKept (scene_at (drops.without tree gone) ms hs next new)) (sym items_are)
+        subst (λ (hs : List Item). IsKept (scene_at (drops.without tree gone) ms hs setting new)) (sym items_are)
         (record {
           are_rows = are-rows;
           each = All-filter (λ item. not (goes_with gone item)) IsItem held kept.each;
@@ -278,7 +280,7 @@ module _ (tree : ViewTree) (ms : MetricList) (held : List Item) (next : ℕ) (l 
           top = kept.top;
           counted = record {
             stays = ap (map (λ (s : Stay). s.attr)) new_stays ∙ left-attributes gone tree.views (moved l.problem.stays l.values) (moved-attrs l.problem.stays l.values ∙ kept.counted.stays);
-            below = subst (All (λ r. r.id < next)) (sym new_rows) (All-filter (keeps (numbers_of (goes_with gone) held)) (λ r. r.id < next) l.problem.rows kept.counted.below);
+            below = subst (All (λ r. r.id < setting.next_row)) (sym new_rows) (All-filter (keeps (numbers_of (goes_with gone) held)) (λ r. r.id < setting.next_row) l.problem.rows kept.counted.below);
             ranks = subst (All HasRank) (sym new_rows) (All-filter (keeps (numbers_of (goes_with gone) held)) HasRank l.problem.rows kept.counted.ranks);
             few = omega (arith, ap length new_rows, shorter (keeps (numbers_of (goes_with gone) held)) l.problem.rows, kept.counted.few);
           };

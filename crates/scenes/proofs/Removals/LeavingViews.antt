@@ -7,17 +7,20 @@ use Rattle.std.specs.List.{Any, Contains, list_any, AllByRecursion as Each}
 use Rattle.problem_core.specs.declared.parts.Stay.{Stay}
 use Rattle.problem_core.specs.declared.parts.Term.{Term}
 use Rattle.problem_core.specs.Layout.{Row, HasStay}
+use Rattle.script_text.specs.Directions.{turned}
+use Rattle.view_tree.specs.Attributes.{height_of, width_of}
 use Rattle.view_tree.specs.Views.{LiveView}
 use Rattle.view_tree.specs.Drops.{AreGoing, goes, is_among}
 use Rattle.view_tree.proofs.DropLemmas.{closed}
 use Rattle.compile_parts.specs.Meaning.{MetricList}
 use Rattle.held_items.specs.Attributes.{HasOwner, IsClose, all_attributes, view_attributes}
-use Rattle.held_items.specs.Items.{Item, OfWindow, OfView, Sized, OfLine, Suggested, AreItemRows, AreRows}
+use Rattle.held_items.specs.Items.{Item, OfWindow, OfView, Sized, OfLine, Suggested, Intrinsic, AreItemRows, AreRows}
 use Rattle.held_items.specs.Leaving.{attributes_in, goes_with, item_numbers, numbers_of, other_stays}
 use Rattle.held_items.specs.Kept.{IsNamed}
 use Rattle.held_items.proofs.Removals.LeavingRows.{among-append, item-ids, none-among, Up, pairs-up}
 use Rattle.held_items.proofs.Lists.{contains-cons, contains-first}
 use Rattle.held_items.proofs.HeldRows.NextRows.{each-now}
+use Rattle.held_items.proofs.HeldRows.RequiredRows.{once}
 use Rattle.constraint_compile.specs.Suggestions.{suggested_row}
 use Rattle.constraint_compile.specs.declared.suggestion.Suggestion.{Suggestion}
 use Rattle.held_items.proofs.Suggestions.SuggestionTerms.{own-terms}
@@ -212,7 +215,7 @@ module _ (views : List LiveView) (root : ℕ) (gone : List ℕ) (are : AreGoing 
 
   suggestion-goes : (s : Suggestion) → Leaves (suggested_row s) → is_among gone s.view ≡ true
   suggestion-goes s (k, t, within, same, h) =
-      goes-there s.view t.attr (subst (λ (u : Term). Contains (view_attributes s.view) u.attr) same (own-terms s.view s.word k t within)) h
+      goes-there s.view t.attr (subst (λ (u : Term). Contains (view_attributes s.view) u.attr) same (own-terms s.view (turned s.direction s.word) k t within)) h
 
   item-goes : (ms : MetricList) (item : Item) (rows : List Row) → AreItemRows ms item rows → IsNamed views item → Each (λ r. Leaves r → goes_with gone item ≡ true) rows
   item-goes ms OfWindow rows is named =
@@ -237,6 +240,14 @@ module _ (views : List LiveView) (root : ℕ) (gone : List ℕ) (are : AreGoing 
   item-goes ms (Suggested s) rows is named =
       subst (Each (λ (r : Row). Leaves r → is_among gone s.view ≡ true)) (sym is)
       (suggestion-goes s, tt)
+  item-goes ms (Intrinsic s) rows is named =
+      subst (Each (λ (r : Row). Leaves r → is_among gone s.view ≡ true)) (sym is) (across, (across, (down, (down, tt))))
+    where
+      across : Any (λ t. Contains (attributes_in gone) t.attr) (once (width_of s.view) ∷ []) → is_among gone s.view ≡ true
+      across = one-term (is_among gone s.view ≡ true) (width_of s.view) (once (width_of s.view)) refl (λ h. goes-there s.view (width_of s.view) (2, omega arith, refl) h)
+
+      down : Any (λ t. Contains (attributes_in gone) t.attr) (once (height_of s.view) ∷ []) → is_among gone s.view ≡ true
+      down = one-term (is_among gone s.view ≡ true) (height_of s.view) (once (height_of s.view)) refl (λ h. goes-there s.view (height_of s.view) (3, omega arith, refl) h)
 
   -- the numbers of an item that goes are among those of all that goes
   placed : (goes : Bool) (nums rest : List ℕ) (n : ℕ) → goes ≡ true → Contains nums n → Contains (cond goes nums [] ++ rest) n

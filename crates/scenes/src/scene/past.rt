@@ -1,5 +1,5 @@
 // The parts of a scene that are kept with their earlier versions.
-ghost use Rattle.std.specs.Prelude.{◌≡◌, ◌∷◌, ◌+◌, ◌<◌, ◌≤◌, length, take};
+ghost use Rattle.std.specs.Prelude.{◌≡◌, ◌∷◌, ◌+◌, ◌-◌, ◌<◌, ◌≤◌, length, take};
 ghost use Rattle.std.specs.Prelude.{Some, None};
 ghost use Rattle.std.specs.VecDeque.{deque_capacity};
 ghost use Rattle.layout_solver.specs.Layouts.{solution_of};
@@ -9,9 +9,17 @@ ghost use Rattle.held_items.specs.declared.limits.TheConstants.{EARLIER};
 use held_items::{EARLIER, Item};
 use layout_solver::Engine;
 use name_tables::Metrics;
+use script_text::Direction;
 use std::collections::VecDeque;
 use version_list::VersionList;
 use view_tree::Tree;
+
+/// How what comes next is set: the number that its first row takes, and the direction in which it is meant.
+#[derive(Clone, Copy)]
+pub struct Setting {
+    pub next_row: u32,
+    pub direction: Direction,
+}
 
 /// What an earlier scene has otherwise than the one after it. Views and metrics that are the same stand in
 /// the scene after it alone.
@@ -19,42 +27,67 @@ use view_tree::Tree;
 pub struct Past {
     pub tree: Option<Tree>,
     pub metrics: Option<Metrics>,
-    pub next_row: u32,
+    pub setting: Setting,
 }
 
 impl Past {
     /// The scene has the views and metrics of the one after it.
-    pub fn alike(next_row: u32) -> Past
-        ensures { result ≡ record { tree = None; metrics = None; next_row = next_row } }
+    pub fn alike(setting: Setting) -> Past
+        ensures { result ≡ record { tree = None; metrics = None; setting = setting } }
     {
         Past {
             tree: None,
             metrics: None,
-            next_row,
+            setting,
         }
     }
 
     /// The scene has views of its own.
-    pub fn with_tree(tree: Tree, next_row: u32) -> Past
-        ensures { result ≡ record { tree = Some tree; metrics = None; next_row = next_row } }
+    pub fn with_tree(tree: Tree, setting: Setting) -> Past
+        ensures { result ≡ record { tree = Some tree; metrics = None; setting = setting } }
     {
         Past {
             tree: Some(tree),
             metrics: None,
-            next_row,
+            setting,
         }
     }
 
     /// The scene has metrics of its own.
-    pub fn with_metrics(metrics: Metrics, next_row: u32) -> Past
-        ensures { result ≡ record { tree = None; metrics = Some metrics; next_row = next_row } }
+    pub fn with_metrics(metrics: Metrics, setting: Setting) -> Past
+        ensures { result ≡ record { tree = None; metrics = Some metrics; setting = setting } }
     {
         Past {
             tree: None,
             metrics: Some(metrics),
-            next_row,
+            setting,
         }
     }
+}
+
+// Drops the oldest.
+fn drop_oldest(pasts: &mut VecDeque<Past>)
+    ensures rest { pasts.new.items ≡ take (length pasts.old.items - 1) pasts.old.items }
+    ensures capacity { deque_capacity pasts.new ≡ deque_capacity pasts.old }
+{
+    let _oldest = pasts.pop_back();
+}
+
+// Forgets the oldest of the earlier ones, of which there is one too many.
+fn forget_oldest(items: &mut VersionList<Item>, engine: &mut Engine, pasts: &mut VecDeque<Past>)
+    requires many { length pasts.old.items ≡ EARLIER + 1 }
+    requires items { length items.old.before ≡ EARLIER + 1 }
+    requires solutions { length engine.old.earlier ≡ EARLIER + 1 }
+    ensures now { items.new.items ≡ items.old.items }
+    ensures solution { solution_of engine.new ≡ solution_of engine.old }
+    ensures items { items.new.before ≡ take EARLIER items.old.before }
+    ensures solutions { engine.new.earlier ≡ take EARLIER engine.old.earlier }
+    ensures pasts { pasts.new.items ≡ take EARLIER pasts.old.items }
+    ensures capacity { deque_capacity pasts.new ≡ deque_capacity pasts.old }
+{
+    drop_oldest(pasts);
+    items.forget();
+    engine.forget();
 }
 
 /// Makes what a scene has of its own the newest of the earlier ones, with the newest versions of the items
@@ -79,8 +112,6 @@ pub fn keep(
 {
     pasts.push_front_reserved(past);
     if pasts.len() > EARLIER {
-        let _oldest = pasts.pop_back();
-        items.forget();
-        engine.forget();
+        forget_oldest(items, engine, pasts);
     }
 }

@@ -10,18 +10,21 @@ ghost use Rattle.constraint_compile.specs.Naming.{AreSameBut};
 ghost use Rattle.layout_solver.specs.Layouts.{stays_at};
 ghost use Rattle.layout_solver.specs.Shifts.{shifted};
 ghost use Rattle.held_items.specs.declared.limits.TheConstants.{MOST_ROWS};
-ghost use Rattle.held_items.specs.declared.row_numbers.TheConstants.{SIZE_ROWS, VIEW_ROWS};
-ghost use Rattle.scenes.specs.Drafts.{IsNearSuggestion, IsNextSuggestion, metrics_draft};
+ghost use Rattle.held_items.specs.declared.row_numbers.TheConstants.{INTRINSIC_ROWS, SIZE_ROWS, VIEW_ROWS};
+ghost use Rattle.scenes.specs.Drafts.{IsNearIntrinsic, IsNearSuggestion, IsNextIntrinsic, IsNextSuggestion};
+ghost use Rattle.scenes.specs.Drafts.{metrics_draft, preferred_draft};
 ghost use Rattle.held_items.specs.Attributes.{IsNextLine};
 ghost use Rattle.scenes.specs.Drafts.{AreComing, again_draft, coming_draft, left_draft, window_draft};
 ghost use Rattle.held_items.specs.Items as held;
 ghost use Rattle.held_items.specs.Items.{has_size, size_of};
 ghost use Rattle.scenes.specs.Kept.{IsNextItem};
 ghost use Rattle.held_items.specs.Kept.{size_in};
-ghost use Rattle.scenes.specs.Leaving.{without_group, without_suggestion, without_views};
+ghost use Rattle.scenes.specs.Leaving.{without_group, without_intrinsic, without_suggestion, without_views};
 ghost use Rattle.scenes.specs.Steps.{IsProblemOf};
 ghost use Rattle.scenes.specs.Moving.{AreChangesFor, MayLackChanges};
-ghost use Rattle.scenes.specs.Scene.{problem_of, with_item, with_line, with_suggestion};
+ghost use Rattle.scenes.specs.Scene.{problem_of, with_direction, with_intrinsic, with_item, with_line};
+ghost use Rattle.scenes.specs.Scene.{with_suggestion};
+ghost use Rattle.script_text.specs.declared.words.Direction.{Direction};
 
 use crate::scene::Scene;
 use crate::scene::drafts::{as_held, rows_after, with_less, with_more, with_rows};
@@ -29,8 +32,9 @@ use compile_parts::LargeConstant;
 use constraint_compile::{Compiled, Suggestion};
 use frac_core::{OutOfMemory, Stop};
 use held_items::{
-    HeldSize, Leaver, NewViews, WindowSize, attributes_from, attributes_in, constants_naming,
-    leaving_numbers, moves, size_changes, size_of, size_rows, suggestion_rows, view_rows,
+    HeldSize, IntrinsicSize, Leaver, NewViews, WindowSize, attributes_from, attributes_in,
+    constants_naming, intrinsic_changes, intrinsic_rows, leaving_numbers, moves, size_changes,
+    size_of, size_rows, suggestion_rows, view_rows,
 };
 use layout_solver::Change;
 use name_tables::Metrics;
@@ -85,7 +89,12 @@ impl Scene {
         ensures { IfOk result (IsProblemOf (coming_draft self.now.scene new.now)) }
     {
         self.engine.show_layout(); // for the proof: what an engine keeps
-        let rows = view_rows(self.alloc, self.next_row, new.first_view.0, new.count)?;
+        let rows = view_rows(
+            self.alloc,
+            self.setting.next_row,
+            new.first_view.0,
+            new.count,
+        )?;
         let attrs = attributes_from(self.alloc, new.first_view.0, new.count)?;
         with_more(self.alloc, &self.engine, &attrs, rows)
     }
@@ -126,7 +135,7 @@ impl Scene {
         ensures { IfOk result (IsProblemOf (window_draft self.now.scene size.now)) }
     {
         let _count = self.tree.len(); // for the proof: what a tree keeps
-        let rows = size_rows(self.alloc, self.next_row, size)?;
+        let rows = size_rows(self.alloc, self.setting.next_row, size)?;
         self.item_problem(rows)
     }
 
@@ -188,6 +197,35 @@ impl Scene {
         }])
     }
 
+    /// The problem with a size that a view would like, for whose rows there is to be room.
+    pub fn intrinsic_problem(&self, new: &IntrinsicSize) -> Result<Problem, OutOfMemory>
+        requires next { IsNextIntrinsic self.now.scene new.now }
+        requires room { length self.now.scene.rows + INTRINSIC_ROWS ≤ MOST_ROWS }
+        requires number { self.now.scene.next_row + INTRINSIC_ROWS ≤ NUMBER_LIMIT }
+        ensures { IfOk result (IsProblemOf (with_intrinsic self.now.scene new.now)) }
+    {
+        let _count = self.tree.len(); // for the proof: what a tree keeps
+        let rows = intrinsic_rows(self.alloc, new)?;
+        self.item_problem(rows)
+    }
+
+    /// The problem with another size that a view would like, in place of one that is held.
+    pub fn preferred_problem(&self, again: &IntrinsicSize) -> Result<Problem, OutOfMemory>
+        requires { IsNearIntrinsic self.now.scene again.now }
+        ensures { IfOk result (IsProblemOf (preferred_draft self.now.scene again.now)) }
+    {
+        self.engine.show_layout(); // for the proof: what an engine keeps
+        self.constants_problem(&intrinsic_changes(again))
+    }
+
+    /// The problem in another direction: the rows are as they are.
+    pub fn turned_problem(&self) -> Result<Problem, OutOfMemory>
+        ensures { IfOk result (λ p. (to : Direction) → IsProblemOf (with_direction self.now.scene to) p) }
+    {
+        self.engine.show_layout(); // for the proof: what an engine keeps
+        self.constants_problem(&[])
+    }
+
     /// The problem without the lines of a group.
     pub fn group_problem(&self, name: &[u8]) -> Result<Problem, OutOfMemory>
         ensures { IfOk result (IsProblemOf (without_group self.now.scene name.now)) }
@@ -200,6 +238,13 @@ impl Scene {
         ensures { IfOk result (IsProblemOf (without_suggestion self.now.scene view.0 word)) }
     {
         self.left_items_problem(Leaver::Suggestion(view.0, word))
+    }
+
+    /// The problem without the size of the view.
+    pub fn unsized_problem(&self, view: ViewId) -> Result<Problem, OutOfMemory>
+        ensures { IfOk result (IsProblemOf (without_intrinsic self.now.scene view.0)) }
+    {
+        self.left_items_problem(Leaver::Intrinsic(view.0))
     }
 
     /// The problem without these views, which are a view and all below it.

@@ -1,18 +1,25 @@
-// The engine's changes, as a scene tells them. The items are marked before; after a stop those of before the
-// mark are back, and the engine is as before.
-ghost use Rattle.std.specs.Prelude.{◌≡◌, ◌<◌, ◌∷◌, ◌++◌, length, AllPairs, IfOk, IfErr, OnOk, OnErr};
+// The engine's changes, as a scene tells them. The items are marked before, if nothing else is said; after a
+// stop those of before the mark are back, and the engine is as before.
+ghost use Rattle.std.specs.Prelude.{◌≡◌, ◌<◌, ◌≤◌, ◌∷◌, ◌++◌, length, IfOk, IfErr, OnOk, OnErr};
+ghost use Rattle.std.specs.Prelude.{All, AllPairs};
 ghost use Rattle.problem_core.specs.Kept.{IsWhole, AreRising};
 ghost use Rattle.layout_solver.specs.Begins.{IsStopFrom};
 ghost use Rattle.layout_solver.specs.Layouts.{AreBest, solution_of, with_added, zeros};
 ghost use Rattle.layout_solver.specs.Removals.{CanLeave, IsRemoveStop, stood, with_removed};
 ghost use Rattle.layout_solver.specs.Shifts.{AreKept, CanShift, with_shifts};
 ghost use Rattle.version_list.specs.declared.TheConstants.{VERSION_LIMIT};
+ghost use Rattle.view_tree.specs.declared.limits.TheConstants.{ID_LIMIT};
+ghost use Rattle.held_items.specs.Kept.{IsItem, items_of};
+ghost use Rattle.held_items.specs.Leaving.{goes_with, staying};
+ghost use Rattle.held_items.specs.declared.limits.TheConstants.{EARLIER};
+ghost use Rattle.scenes.specs.Leaving.{leaving_with};
 ghost use Rattle.scenes.specs.Steps.{from_corner, from_shifts, HasRun, LeadsTo};
 
 use cert_core::RunStop;
-use held_items::Item;
+use held_items::{Item, Leaver, attributes_in, leaving_numbers, take_leaving_out};
 use layout_solver::{Change, Engine, RemoveStop};
 use problem_core::Row;
+use std::alloc::Global;
 use version_list::VersionList;
 
 /// Takes more attributes and rows, with the stays at the present values, and goes on to the best values.
@@ -115,4 +122,39 @@ pub fn take_out(
             Err(stop)
         }
     }
+}
+
+/// Takes out the attributes of these views and the rows of what goes with them, with the stays at the present
+/// values, and goes on to the best values. What goes leaves the items, of which those of before are the newest
+/// earlier version; after a stop all is as before.
+pub fn take_gone(
+    alloc: Global,
+    engine: &mut Engine,
+    items: &mut VersionList<Item>,
+    gone: &[u32],
+    budget: u64,
+) -> Result<(), RemoveStop>
+    requires few { length items.old.before ≤ EARLIER }
+    requires room { length engine.old.earlier < VERSION_LIMIT }
+    requires each { All IsItem (items_of items.old.items) }
+    requires small { All (λ id. id < ID_LIMIT) gone.now }
+    requires leave { CanLeave (leaving_with gone.now (items_of items.old.items)) engine.old.problem }
+    ensures done { OnOk result
+        (engine.new.problem ≡ with_removed engine.old (leaving_with gone.now (items_of items.old.items))) }
+    ensures best { OnOk result (AreBest engine.new.problem engine.new.values) }
+    ensures run { IfOk result (λ _. HasRun engine.old engine.new
+        (leaving_with gone.now (items_of items.old.items)) budget) }
+    ensures stop { IfErr result (IsRemoveStop (stood engine.old) engine.old.corner
+        (leaving_with gone.now (items_of items.old.items)) budget) }
+    ensures earlier { OnOk result (engine.new.earlier ≡ solution_of engine.old ∷ engine.old.earlier) }
+    ensures items { OnOk result
+        (items_of items.new.items ≡ staying (goes_with gone.now) (items_of items.old.items)) }
+    ensures before { OnOk result (items.new.before ≡ items.old.items ∷ items.old.before) }
+    ensures same { OnErr result (engine.new ≡ engine.old) }
+    ensures back { OnErr result (items.new ≡ items.old) }
+{
+    let rows = leaving_numbers(alloc, items.as_slice(), Leaver::Views(gone))?;
+    let attrs = attributes_in(alloc, gone)?;
+    take_leaving_out(items, Leaver::Views(gone))?;
+    take_out(engine, items, &rows, &attrs, budget)
 }

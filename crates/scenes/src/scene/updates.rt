@@ -8,7 +8,7 @@ use crate::scene::Scene;
 use cert_core::RunStop;
 use constraint_compile::Compiled;
 use frac_core::OutOfMemory;
-use held_items::{NewSuggestion, WindowSize};
+use held_items::{NewIntrinsic, NewSuggestion, WindowSize};
 use layout_solver::Change;
 use name_tables::{Metrics, OwnedName};
 use problem_core::{Problem, Row};
@@ -39,6 +39,8 @@ pub enum Update {
     Line(NewLine),
     /// A suggestion more, or another constant of one that is held.
     Suggestion(NewSuggestion),
+    /// The size that a view would like, or another one in place of one that is held.
+    Intrinsic(NewIntrinsic),
 }
 
 impl Scene {
@@ -56,6 +58,8 @@ impl Scene {
             Update::Line(new) => self.take_line(new.group, new.line, &new.rows, budget),
             Update::Suggestion(NewSuggestion::First(new)) => self.take_suggestion(new, budget),
             Update::Suggestion(NewSuggestion::Again(again)) => self.take_suggested(again, budget),
+            Update::Intrinsic(NewIntrinsic::First(new)) => self.take_intrinsic(new, budget),
+            Update::Intrinsic(NewIntrinsic::Again(again)) => self.take_preferred(again, budget),
         }
     }
 
@@ -70,6 +74,8 @@ impl Scene {
             Update::Line(NewLine { line, rows, .. }) => self.line_problem(&line, rows),
             Update::Suggestion(NewSuggestion::First(new)) => self.suggestion_problem(&new),
             Update::Suggestion(NewSuggestion::Again(again)) => self.suggested_problem(&again),
+            Update::Intrinsic(NewIntrinsic::First(new)) => self.intrinsic_problem(&new),
+            Update::Intrinsic(NewIntrinsic::Again(again)) => self.preferred_problem(&again),
         }
     }
 }

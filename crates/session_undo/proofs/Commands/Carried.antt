@@ -7,28 +7,26 @@ use Rattle.span_text.specs.Objects.{Meant}
 use Rattle.compile_parts.specs.declared.stops.CompileStop.{CompileStop}
 use Rattle.compile_parts.specs.declared.stops.KindWord.TheVariants as kind
 use Rattle.constraint_compile.specs.Compiled.{CompiledLine}
-use Rattle.constraint_compile.specs.Stops.{IsCompiled, MayStop}
-use Rattle.format_compile.specs.FormatParts.{parts}
-use Rattle.format_compile.specs.FormatRows.{IsCompiledFormat, MayStopFormat}
-use Rattle.format_compile.specs.FormatStops.{row_count}
 use Rattle.constraint_compile.specs.declared.suggestion.Suggestion.{Suggestion}
 use Rattle.script_text.specs.Meaning.{Meaning}
 use Rattle.script_text.specs.Meaning as mean
 use Rattle.script_text.specs.declared.words.AttrWord.{AttrWord}
 use Rattle.view_tree.specs.JsonTrees.{Branch}
-use Rattle.held_items.specs.Items.{suggestion_name, suggestion_of}
+use Rattle.held_items.specs.declared.item.intrinsic.IntrinsicSize.{IntrinsicSize}
+use Rattle.held_items.specs.Items.{intrinsic_name, intrinsic_of, suggestion_name, suggestion_of}
 use Rattle.scenes.specs.Scene.{Scene}
 use Rattle.scenes.specs.Steps.{IsProblemOf}
 use Rattle.session_undo.specs.declared.draft.Draft.{Draft}
 use Rattle.session_undo.specs.declared.draft.Draft.TheVariants as draft
 use Rattle.session_undo.specs.Adding.{NoEnd, NoOther}
-use Rattle.session_undo.specs.Asking.{Any, AsksFor, EndsAs, Free, IsDraft, Kind, Left, Plain, drafted, kind_for, kind_of}
-use Rattle.session_undo.specs.Machine.{Ends, Poses, PosesDraft, PosesScene, Suggests, Tried, TriedBranch, TriedDrop, TriedLine, TriedMetric, TriedRelease, TriedRemove, TriedSuggest, TriedTree, TriedView, TriedWindow, parent_name}
+use Rattle.session_undo.specs.Asking.{Any, AsksFor, EndsAs, Free, IsDraft, Kind, Left, Plain, Turned, drafted, kind_for, kind_of}
+use Rattle.session_undo.specs.Machine.{Ends, Poses, PosesDraft, PosesScene, Sizes, Suggests, Tried, TriedBranch, TriedDrop, TriedLine, TriedMetric, TriedRelease, TriedRemove, TriedSize, TriedSuggest, TriedTree, TriedUnsize, TriedView, TriedWindow, parent_name}
 use Rattle.session_undo.specs.Replies.{Done, Kind as Wrong, Limit, NoEarlier, Outside, Reply, Taken, Unknown, is_accepted}
 use Rattle.session_undo.specs.State.{State}
 use Rattle.session_undo.proofs.Commands.Chains.{metric-causes, view-causes, window-causes}
 use Rattle.session_undo.proofs.Commands.LeavingSteps.{dropped-causes}
-use Rattle.session_undo.proofs.Commands.LineStops.{constraint-causes, format-causes}
+use Rattle.session_undo.proofs.Commands.LineStops.{IsLineOf, IsTextOf, MayStopLine, MayStopText, constraint-causes, format-causes, text_count}
+use Rattle.session_undo.proofs.Commands.SizeSteps.{size-causes, unsize-causes}
 use Rattle.session_undo.proofs.Commands.SuggestionSteps.{release-causes, suggest-causes}
 use Rattle.session_undo.proofs.Commands.TreeChains.{tree-causes}
 
@@ -110,6 +108,27 @@ module _ (old : State) (scene : Scene) (End : Scene → Reply → State → Type
   carry-release name attr (inr (a, (view, found, inl (h, is, same)))) = absurd (refused (Unknown (suggestion_name name attr)) refl is)
   carry-release name attr (inr (a, (view, found, inr (b, is)))) = inr (a, (view, found, inr (b, ended _ is)))
 
+  carry-sizes : (view : ℕ) (width height : Fraction) (hug resist : Option Meant) (hugs resists : ℕ) (held : Option IntrinsicSize) → Sizes old view width height hug resist hugs resists held (AsksFor scene) Done old
+      → Sizes old view width height hug resist hugs resists held End reply new
+  carry-sizes view width height hug resist hugs resists None (inl (h, is, same)) = absurd (refused (Limit word.Rows) refl is)
+  carry-sizes view width height hug resist hugs resists None (inr (a, is)) = inr (a, ended _ is)
+  carry-sizes view width height hug resist hugs resists (Some s) (inl (h, is, same)) = absurd (refused (Wrong kind.Sized) refl is)
+  carry-sizes view width height hug resist hugs resists (Some s) (inr (a, inl (h, is, same))) = absurd (refused (Limit word.Constant) refl is)
+  carry-sizes view width height hug resist hugs resists (Some s) (inr (a, inr (b, is))) = inr (a, inr (b, ended _ is))
+
+  carry-size : (name : List ℕ) (width height : Fraction) (hug resist : Option Meant) → TriedSize old name width height hug resist (AsksFor scene) Done old → TriedSize old name width height hug resist End reply new
+  carry-size name width height hug resist (inl (h, is, same)) = absurd (refused (Unknown name) refl is)
+  carry-size name width height hug resist (inr (a, inl (other, known, is, same))) = absurd (refused (Unknown other) refl is)
+  carry-size name width height hug resist (inr (a, inr (b, inl (other, known, is, same)))) = absurd (refused (Unknown other) refl is)
+  carry-size name width height hug resist (inr (a, inr (b, inr (c, inl (h, is, same))))) = absurd (refused (Wrong kind.Priority) refl is)
+  carry-size name width height hug resist (inr (a, inr (b, inr (c, inr (d, (view, found, hugs, resists, hugs_is, resists_is, more)))))) =
+      inr (a, inr (b, inr (c, inr (d, (view, found, hugs, resists, hugs_is, resists_is, carry-sizes view.id width height hug resist hugs resists (intrinsic_of view.id old.scene.held) more)))))
+
+  carry-unsize : (name : List ℕ) → TriedUnsize old name (AsksFor scene) Done old → TriedUnsize old name End reply new
+  carry-unsize name (inl (h, is, same)) = absurd (refused (Unknown name) refl is)
+  carry-unsize name (inr (a, (view, found, inl (h, is, same)))) = absurd (refused (Unknown (intrinsic_name name)) refl is)
+  carry-unsize name (inr (a, (view, found, inr (b, is)))) = inr (a, (view, found, inr (b, ended _ is)))
+
   carry-remove : (group : List ℕ) → TriedRemove old group (AsksFor scene) Done old → TriedRemove old group End reply new
   carry-remove group (inl (h, is, same)) = absurd (refused (Unknown group) refl is)
   carry-remove group (inr (a, is)) = inr (a, ended _ is)
@@ -125,10 +144,8 @@ module _ (old : State) (scene : Scene) (End : Scene → Reply → State → Type
   carried (mean.Drop name) Other h = carry-drop name h
   carried (mean.Metric name value) Other h = carry-metric name value h
   carried (mean.Window width height) Other h = carry-window width height h
-  carried (mean.Constrain group line) Other h =
-      carry-line group 1 (MayStop old.scene.tree.views old.scene.metrics line old.scene.next_row) (IsCompiled old.scene.tree.views old.scene.metrics line old.scene.next_row) h
-  carried (mean.Vfl group align format) Other h =
-      carry-line group (row_count old.scene.tree.views (parts format align)) (MayStopFormat old.scene.tree.views old.scene.metrics format align old.scene.next_row) (IsCompiledFormat old.scene.tree.views old.scene.metrics format align old.scene.next_row) h
+  carried (mean.Constrain group line) Other h = carry-line group 1 (MayStopLine old line) (IsLineOf old line) h
+  carried (mean.Vfl group align format) Other h = carry-line group (text_count old align format) (MayStopText old align format) (IsTextOf old align format) h
   carried (mean.Remove group) Other h = carry-remove group h
   carried (mean.Suggest name attr value priority) Other h = carry-suggest name attr value priority h
   carried (mean.Release name attr) Other h = carry-release name attr h
@@ -141,6 +158,9 @@ module _ (old : State) (scene : Scene) (End : Scene → Reply → State → Type
   carried mean.Rows Other h = absurd h
   carried mean.Diagnose Other h = ended _ h
   carried mean.Certify Other (levels, is, never) = absurd never
+  carried (mean.Turn to) Other h = ended _ h
+  carried (mean.Size name width height hug resist) Other h = carry-size name width height hug resist h
+  carried (mean.Unsize name) Other h = carry-unsize name h
 
 -- ---- causes
 
@@ -165,6 +185,9 @@ caused old mean.Frames End Other reply new h = absurd h
 caused old mean.Rows End Other reply new h = absurd h
 caused old mean.Diagnose End Other reply new h = absurd h
 caused old mean.Certify End Other reply new (levels, is, never) = absurd never
+caused old (mean.Turn to) End Other reply new h = absurd h
+caused old (mean.Size name width height hug resist) End Other reply new h = size-causes old width height hug resist End reply new name h
+caused old (mean.Unsize name) End Other reply new h = unsize-causes old name End reply new h
 
 -- ---- kinds
 
@@ -172,6 +195,7 @@ abbrev is_plain : Kind → Bool
 is_plain Free = false
 is_plain Any = false
 is_plain Left = false
+is_plain Turned = false
 is_plain Plain = true
 
 never-plain : (d : Draft) → is_plain (kind_of d) ≡ false
@@ -180,6 +204,8 @@ never-plain (draft.Update update) = refl
 never-plain (draft.ViewsOut gone) = refl
 never-plain (draft.GroupOut group) = refl
 never-plain (draft.SuggestionOut view word) = refl
+never-plain (draft.IntrinsicOut view) = refl
+never-plain (draft.Turn to) = refl
 
 not-plain : (d : Draft) → kind_of d ≡ Plain → ⊥
 not-plain d is = true≢false (sym (ap is_plain is) ∙ never-plain d)
@@ -202,6 +228,9 @@ ends-for old mean.Frames scene reply new h = absurd h
 ends-for old mean.Rows scene reply new h = absurd h
 ends-for old mean.Diagnose scene reply new h = absurd h
 ends-for old mean.Certify scene reply new h = absurd h
+ends-for old (mean.Turn to) scene reply new h = h
+ends-for old (mean.Size name width height hug resist) scene reply new h = h
+ends-for old (mean.Unsize name) scene reply new h = h
 
 -- ---- what a draft comes to
 
@@ -231,3 +260,6 @@ drafted-poses old mean.Frames d p is of = absurd (not-plain d is.kind_is)
 drafted-poses old mean.Rows d p is of = absurd (not-plain d is.kind_is)
 drafted-poses old mean.Diagnose d p is of = absurd (not-plain d is.kind_is)
 drafted-poses old mean.Certify d p is of = absurd (not-plain d is.kind_is)
+drafted-poses old (mean.Turn to) d p is of = carried old (drafted old.scene d) (PosesDraft p) Done old of (mean.Turn to) (PosesScene old p) is.asks
+drafted-poses old (mean.Size name width height hug resist) d p is of = carried old (drafted old.scene d) (PosesDraft p) Done old of (mean.Size name width height hug resist) (PosesScene old p) is.asks
+drafted-poses old (mean.Unsize name) d p is of = carried old (drafted old.scene d) (PosesDraft p) Done old of (mean.Unsize name) (PosesScene old p) is.asks

@@ -4,10 +4,10 @@ use Rattle.std.specs.Global.{Vec}
 use Rattle.std.specs.List.{list_any}
 use Rattle.frac_core.specs.Fraction.{Fraction}
 use Rattle.span_text.specs.Objects.{Meant}
-use Rattle.constraint_compile.specs.Stops.{IsCompiled}
-use Rattle.format_compile.specs.FormatRows.{IsCompiledFormat}
 use Rattle.held_items.specs.declared.item.WindowSize.{WindowSize}
 use Rattle.held_items.specs.declared.item.coming.NewViews.{NewViews}
+use Rattle.held_items.specs.declared.item.intrinsic.NewIntrinsic.{NewIntrinsic}
+use Rattle.held_items.specs.declared.item.intrinsic.NewIntrinsic.TheVariants as wished
 use Rattle.held_items.specs.declared.item.suggesting.NewSuggestion.{NewSuggestion}
 use Rattle.held_items.specs.declared.item.suggesting.NewSuggestion.TheVariants as made
 use Rattle.held_items.specs.Leaving.{is_in_group}
@@ -15,6 +15,7 @@ use Rattle.script_text.specs.Meaning.{Linear}
 use Rattle.script_text.specs.Meaning as mean
 use Rattle.script_text.specs.declared.words.Align.{Align}
 use Rattle.script_text.specs.declared.words.AttrWord.{AttrWord}
+use Rattle.script_text.specs.declared.words.Direction.{Direction}
 use Rattle.vfl_text.specs.Formats.{FormatMeaning}
 use Rattle.view_tree.specs.JsonTrees.{size}
 use Rattle.view_tree.specs.declared.view.ViewId.{ViewId}
@@ -23,7 +24,7 @@ use Rattle.scenes.specs.declared.scene.updates.NewLine.{NewLine}
 use Rattle.scenes.specs.declared.scene.updates.NewMetrics.{NewMetrics}
 use Rattle.scenes.specs.declared.scene.updates.Update.TheVariants as update
 use Rattle.session_undo.specs.declared.draft.Draft.TheVariants as draft
-use Rattle.session_undo.specs.Adding.{IsFreeLine, IsFreeMetric, IsFreeSize, IsFreeSuggestion, IsFreeTree, IsFreeView, IsGoing, IsHeldSuggestion}
+use Rattle.session_undo.specs.Adding.{IsFreeIntrinsic, IsFreeLine, IsFreeMetric, IsFreeSize, IsFreeSuggestion, IsFreeTree, IsFreeView, IsGoing, IsHeldIntrinsic, IsHeldSuggestion}
 use Rattle.session_undo.specs.Asking.{AsksFor, IsDraft, drafted}
 use Rattle.session_undo.specs.Kept.{AreWithin}
 use Rattle.session_undo.specs.Machine.{IsCrowded, parent_name}
@@ -31,8 +32,9 @@ use Rattle.session_undo.specs.Replies.{Done}
 use Rattle.session_undo.specs.State.{State}
 use Rattle.session_undo.proofs.Commands.Chains.{metric-passed, view-passed, window-passed}
 use Rattle.session_undo.proofs.Commands.LeavingSteps.{dropped-passed, removed-passed}
-use Rattle.session_undo.proofs.Commands.LineStops.{constraint-passed, format-passed}
+use Rattle.session_undo.proofs.Commands.LineStops.{IsLineOf, IsTextOf, constraint-passed, format-passed}
 use Rattle.session_undo.proofs.Commands.Rooms.{room-fits, room-numbers}
+use Rattle.session_undo.proofs.Commands.SizeSteps.{first-size-next, first-size-passed, later-size-near, later-size-passed, unsize-passed}
 use Rattle.session_undo.proofs.Commands.SuggestionSteps.{first-next, first-passed, later-near, later-passed, release-passed}
 use Rattle.session_undo.proofs.Commands.TreeChains.{tree-passed}
 
@@ -71,7 +73,7 @@ module _ (old : State) (within : AreWithin old.limits) where
   roomy : (group : List ℕ) (new : NewLine) → IsFreeLine old group new.group new.line new.rows.items → HasRoomFor old.scene (length new.rows.items)
   roomy group new free = has-room (length new.rows.items) (subst (λ (n : ℕ). IsCrowded old n → ⊥) (sym free.are_rows.long) free.free.1)
 
-  pub constraint-draft : (group : List ℕ) (line : Linear) (new : NewLine) → IsCompiled old.scene.tree.views old.scene.metrics line old.scene.next_row new.line → IsFreeLine old group new.group new.line new.rows.items
+  pub constraint-draft : (group : List ℕ) (line : Linear) (new : NewLine) → IsLineOf old line new.line → IsFreeLine old group new.group new.line new.rows.items
       → IsDraft old (mean.Constrain group line) (draft.Update (update.Line new))
   constraint-draft group line new is free = record {
     asks = constraint-passed old group line (AsksFor (drafted old.scene (draft.Update (update.Line new)))) new.line new.group new.rows.items Done old is free refl;
@@ -79,7 +81,7 @@ module _ (old : State) (within : AreWithin old.limits) where
     kind_is = refl;
   }
 
-  pub format-draft : (group : List ℕ) (align : Option Align) (format : FormatMeaning) (new : NewLine) → IsCompiledFormat old.scene.tree.views old.scene.metrics format align old.scene.next_row new.line
+  pub format-draft : (group : List ℕ) (align : Option Align) (format : FormatMeaning) (new : NewLine) → IsTextOf old align format new.line
       → IsFreeLine old group new.group new.line new.rows.items → IsDraft old (mean.Vfl group align format) (draft.Update (update.Line new))
   format-draft group align format new is free = record {
     asks = format-passed old group align format (AsksFor (drafted old.scene (draft.Update (update.Line new)))) new.line new.group new.rows.items Done old is free refl;
@@ -97,6 +99,19 @@ module _ (old : State) (within : AreWithin old.limits) where
   suggest-draft name attr value priority (made.Again s) later = record {
     asks = later-passed old name attr value priority s (AsksFor (drafted old.scene (draft.Update (update.Suggestion (made.Again s))))) Done old later refl;
     may = later-near old name attr value priority s later;
+    kind_is = refl;
+  }
+
+  pub size-draft : (name : List ℕ) (width height : Fraction) (hug resist : Option Meant) (new : NewIntrinsic) → IsFreeIntrinsic old name width height hug resist new
+      → IsDraft old (mean.Size name width height hug resist) (draft.Update (update.Intrinsic new))
+  size-draft name width height hug resist (wished.First s) first = record {
+    asks = first-size-passed old name width height hug resist s (AsksFor (drafted old.scene (draft.Update (update.Intrinsic (wished.First s))))) Done old first refl;
+    may = (first-size-next old name width height hug resist s first, has-room 4 first.room);
+    kind_is = refl;
+  }
+  size-draft name width height hug resist (wished.Again s) later = record {
+    asks = later-size-passed old name width height hug resist s (AsksFor (drafted old.scene (draft.Update (update.Intrinsic (wished.Again s))))) Done old later refl;
+    may = later-size-near old name width height hug resist s later;
     kind_is = refl;
   }
 
@@ -128,3 +143,13 @@ release-draft old name attr view held = record {
   may = tt;
   kind_is = refl;
 }
+
+pub unsize-draft : (old : State) (name : List ℕ) (view : ViewId) → IsHeldIntrinsic old.scene name view.0 → IsDraft old (mean.Unsize name) (draft.IntrinsicOut view)
+unsize-draft old name view held = record {
+  asks = unsize-passed old name view.0 (AsksFor (drafted old.scene (draft.IntrinsicOut view))) Done old held refl;
+  may = tt;
+  kind_is = refl;
+}
+
+pub turn-draft : (old : State) (to : Direction) → IsDraft old (mean.Turn to) (draft.Turn to)
+turn-draft old to = record { asks = refl; may = tt; kind_is = refl }

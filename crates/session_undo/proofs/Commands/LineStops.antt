@@ -6,6 +6,8 @@ use Rattle.name_tables.specs.declared.stops.LimitWord.{LimitWord}
 use Rattle.name_tables.specs.declared.stops.LimitWord.TheVariants as word
 use Rattle.vfl_text.specs.Formats.{FormatMeaning}
 use Rattle.script_text.specs.declared.words.Align.{Align}
+use Rattle.script_text.specs.declared.words.Direction.{Direction}
+use Rattle.script_text.specs.Directions.{line_in}
 use Rattle.script_text.specs.Meaning.{Linear}
 use Rattle.view_tree.specs.Views.{LiveView}
 use Rattle.compile_parts.specs.Meaning.{MetricList, terms_of}
@@ -48,6 +50,7 @@ not-wrong views metrics l kind.Align usable wrong = wrong
 not-wrong views metrics l kind.Parent usable wrong = wrong
 not-wrong views metrics l kind.Window usable wrong = wrong
 not-wrong views metrics l kind.Suggested usable wrong = wrong
+not-wrong views metrics l kind.Sized usable wrong = wrong
 not-wrong views metrics l kind.Tree usable wrong = wrong
 
 line-excludes : (views : List LiveView) (metrics : MetricList) (l : Linear) (n : ℕ) → Excludes (MayStop views metrics l n)
@@ -79,70 +82,93 @@ line-none views metrics l n c is = record {
   limit = λ limit h. not-past views metrics l n c limit is h;
 }
 
+-- it stops the compiler of the line as it is meant in the scene's direction
+abbrev pub MayStopLine : State → Linear → CompileStop → Type 0
+MayStopLine old l = MayStop old.scene.tree.views old.scene.metrics (line_in old.scene.direction l) old.scene.next_row
+
+-- the line as it is meant in the scene's direction is so compiled
+abbrev pub IsLineOf : State → Linear → CompiledLine → Type 0
+IsLineOf old l = IsCompiled old.scene.tree.views old.scene.metrics (line_in old.scene.direction l) old.scene.next_row
+
 module _ (old : State) (group : List ℕ) (l : Linear) (End : Scene → Reply → State → Type 0) where
+  abbrev meant : Linear
+  meant = line_in old.scene.direction l
+
   abbrev LineMay : CompileStop → Type 0
-  LineMay = MayStop old.scene.tree.views old.scene.metrics l old.scene.next_row
+  LineMay = MayStopLine old l
 
   abbrev LineIs : CompiledLine → Type 0
-  LineIs = IsCompiled old.scene.tree.views old.scene.metrics l old.scene.next_row
+  LineIs = IsLineOf old l
 
   pub constraint-passed : (c : CompiledLine) (kept : List ℕ) (rows : List Row) (reply : Reply) (new : State) → LineIs c → IsFreeLine old group kept c rows → End (with_line old.scene kept c) reply new → TriedConstraint old group l End reply new
   constraint-passed c kept rows reply new is free end =
-      add-passed old group LineMay LineIs End 1 c kept rows reply new (line-none old.scene.tree.views old.scene.metrics l old.scene.next_row c is) is (ap length is.row.1) free end
+      add-passed old group LineMay LineIs End 1 c kept rows reply new (line-none old.scene.tree.views old.scene.metrics meant old.scene.next_row c is) is (ap length is.row.1) free end
 
   pub constraint-full : (c : CompiledLine) (reply : Reply) (new : State) → LineIs c → AddStop old group c reply new → TriedConstraint old group l End reply new
-  constraint-full c reply new is step = add-stop old group LineMay LineIs End 1 c reply new (line-none old.scene.tree.views old.scene.metrics l old.scene.next_row c is) (ap length is.row.1) step
+  constraint-full c reply new is step = add-stop old group LineMay LineIs End 1 c reply new (line-none old.scene.tree.views old.scene.metrics meant old.scene.next_row c is) (ap length is.row.1) step
 
   pub constraint-stopped : (s : CompileStop) (reply : Reply) (new : State) → LineMay s → StopStep old group 1 s reply new → TriedConstraint old group l End reply new
-  constraint-stopped s reply new may step = stop-step old group LineMay LineIs End 1 s reply new (line-excludes old.scene.tree.views old.scene.metrics l old.scene.next_row) may step
+  constraint-stopped s reply new may step = stop-step old group LineMay LineIs End 1 s reply new (line-excludes old.scene.tree.views old.scene.metrics meant old.scene.next_row) may step
 
   pub constraint-causes : (reply : Reply) (new : State) → TriedConstraint old group l NoEnd reply new → TriedConstraint old group l End reply new
   constraint-causes reply new h = line-causes old group 1 LineMay LineIs End reply new h
 
 -- ---- formats
 
-module _ (views : List LiveView) (metrics : MetricList) (f : FormatMeaning) (align : Option Align) (first : ℕ) where
-  once : (a b : CompileStop) (m n : ℕ) → tag a ≡ m → tag b ≡ n → (m ≡ 3 → ⊥) → (n ≡ 3 → ⊥) → (m ≡ n → ⊥) → MayStopFormat views metrics f align first a → MayStopFormat views metrics f align first b → ⊥
+module _ (views : List LiveView) (metrics : MetricList) (f : FormatMeaning) (align : Option Align) (d : Direction) (first : ℕ) where
+  once : (a b : CompileStop) (m n : ℕ) → tag a ≡ m → tag b ≡ n → (m ≡ 3 → ⊥) → (n ≡ 3 → ⊥) → (m ≡ n → ⊥) → MayStopFormat views metrics f align d first a → MayStopFormat views metrics f align d first b → ⊥
   once a b m n a_is b_is a_not b_not not one other =
-      apart a b m n a_is b_is not (refused_once views metrics f align first a b one other (apart a stop.OutOfMemory m 3 a_is refl a_not) (apart b stop.OutOfMemory n 3 b_is refl b_not))
+      apart a b m n a_is b_is not (refused_once views metrics f align d first a b one other (apart a stop.OutOfMemory m 3 a_is refl a_not) (apart b stop.OutOfMemory n 3 b_is refl b_not))
 
-  format-excludes : Excludes (MayStopFormat views metrics f align first)
+  format-excludes : Excludes (MayStopFormat views metrics f align d first)
   format-excludes = record {
     kind = λ name w u k. once (stop.Unknown name) (stop.Kind w) 0 1 refl refl (λ e. omega (arith, e)) (λ e. omega (arith, e)) (λ e. omega (arith, e)) u k;
     limit = λ name w u k. once (stop.Unknown name) (stop.Limit w) 0 2 refl refl (λ e. omega (arith, e)) (λ e. omega (arith, e)) (λ e. omega (arith, e)) u k;
     wrong = λ w limit k h. once (stop.Kind w) (stop.Limit limit) 1 2 refl refl (λ e. omega (arith, e)) (λ e. omega (arith, e)) (λ e. omega (arith, e)) k h;
   }
 
-  format-none : (c : CompiledLine) → IsCompiledFormat views metrics f align first c → NoStop (MayStopFormat views metrics f align first)
+  format-none : (c : CompiledLine) → IsCompiledFormat views metrics f align d first c → NoStop (MayStopFormat views metrics f align d first)
   format-none c is = record {
-    unknown = λ name u. apart (stop.Unknown name) stop.OutOfMemory 0 3 refl refl (λ e. omega (arith, e)) (compiled_refused views metrics f align first c (stop.Unknown name) is u);
-    kind = λ w k. apart (stop.Kind w) stop.OutOfMemory 1 3 refl refl (λ e. omega (arith, e)) (compiled_refused views metrics f align first c (stop.Kind w) is k);
-    limit = λ w h. apart (stop.Limit w) stop.OutOfMemory 2 3 refl refl (λ e. omega (arith, e)) (compiled_refused views metrics f align first c (stop.Limit w) is h);
+    unknown = λ name u. apart (stop.Unknown name) stop.OutOfMemory 0 3 refl refl (λ e. omega (arith, e)) (compiled_refused views metrics f align d first c (stop.Unknown name) is u);
+    kind = λ w k. apart (stop.Kind w) stop.OutOfMemory 1 3 refl refl (λ e. omega (arith, e)) (compiled_refused views metrics f align d first c (stop.Kind w) is k);
+    limit = λ w h. apart (stop.Limit w) stop.OutOfMemory 2 3 refl refl (λ e. omega (arith, e)) (compiled_refused views metrics f align d first c (stop.Limit w) is h);
   }
+
+-- it stops the compiler of the format in the scene's direction
+abbrev pub MayStopText : State → Option Align → FormatMeaning → CompileStop → Type 0
+MayStopText old align f = MayStopFormat old.scene.tree.views old.scene.metrics f align old.scene.direction old.scene.next_row
+
+-- the format in the scene's direction is so compiled
+abbrev pub IsTextOf : State → Option Align → FormatMeaning → CompiledLine → Type 0
+IsTextOf old align f = IsCompiledFormat old.scene.tree.views old.scene.metrics f align old.scene.direction old.scene.next_row
+
+-- it has so many rows
+abbrev pub text_count : State → Option Align → FormatMeaning → ℕ
+text_count old align f = row_count old.scene.tree.views (parts f align old.scene.direction)
 
 module _ (old : State) (group : List ℕ) (align : Option Align) (f : FormatMeaning) (End : Scene → Reply → State → Type 0) where
   abbrev FormatMay : CompileStop → Type 0
-  FormatMay = MayStopFormat old.scene.tree.views old.scene.metrics f align old.scene.next_row
+  FormatMay = MayStopText old align f
 
   abbrev FormatIs : CompiledLine → Type 0
-  FormatIs = IsCompiledFormat old.scene.tree.views old.scene.metrics f align old.scene.next_row
+  FormatIs = IsTextOf old align f
 
   abbrev count : ℕ
-  count = row_count old.scene.tree.views (parts f align)
+  count = text_count old align f
 
   pub format-passed : (c : CompiledLine) (kept : List ℕ) (rows : List Row) (reply : Reply) (new : State) → FormatIs c → IsFreeLine old group kept c rows → End (with_line old.scene kept c) reply new → TriedFormat old group align f End reply new
   format-passed c kept rows reply new is free end =
-      add-passed old group FormatMay FormatIs End count c kept rows reply new (format-none old.scene.tree.views old.scene.metrics f align old.scene.next_row c is) is
-      (compiled_count old.scene.tree.views old.scene.metrics f align old.scene.next_row c is) free end
+      add-passed old group FormatMay FormatIs End count c kept rows reply new (format-none old.scene.tree.views old.scene.metrics f align old.scene.direction old.scene.next_row c is) is
+      (compiled_count old.scene.tree.views old.scene.metrics f align old.scene.direction old.scene.next_row c is) free end
 
   pub format-full : (c : CompiledLine) (reply : Reply) (new : State) → FormatIs c → AddStop old group c reply new → TriedFormat old group align f End reply new
   format-full c reply new is step =
-      add-stop old group FormatMay FormatIs End count c reply new (format-none old.scene.tree.views old.scene.metrics f align old.scene.next_row c is)
-      (compiled_count old.scene.tree.views old.scene.metrics f align old.scene.next_row c is) step
+      add-stop old group FormatMay FormatIs End count c reply new (format-none old.scene.tree.views old.scene.metrics f align old.scene.direction old.scene.next_row c is)
+      (compiled_count old.scene.tree.views old.scene.metrics f align old.scene.direction old.scene.next_row c is) step
 
-  pub format-stopped : (n : ℕ) (s : CompileStop) (reply : Reply) (new : State) → n ≡ row_count old.scene.tree.views (parts f align) → FormatMay s → StopStep old group n s reply new → TriedFormat old group align f End reply new
+  pub format-stopped : (n : ℕ) (s : CompileStop) (reply : Reply) (new : State) → n ≡ text_count old align f → FormatMay s → StopStep old group n s reply new → TriedFormat old group align f End reply new
   format-stopped n s reply new n_is may step =
-      stop-step old group FormatMay FormatIs End count s reply new (format-excludes old.scene.tree.views old.scene.metrics f align old.scene.next_row) may (subst (λ (m : ℕ). StopStep old group m s reply new) n_is step)
+      stop-step old group FormatMay FormatIs End count s reply new (format-excludes old.scene.tree.views old.scene.metrics f align old.scene.direction old.scene.next_row) may (subst (λ (m : ℕ). StopStep old group m s reply new) n_is step)
 
   pub format-causes : (reply : Reply) (new : State) → TriedFormat old group align f NoEnd reply new → TriedFormat old group align f End reply new
   format-causes reply new h = line-causes old group count FormatMay FormatIs End reply new h

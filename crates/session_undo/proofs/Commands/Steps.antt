@@ -16,9 +16,9 @@ use Rattle.std.specs.Prelude.{IfOk, IfErr, OnOk}
 use Rattle.std.specs.declared.result.Result.{Result}
 use Rattle.std.specs.declared.result.Result.TheVariants.{Ok, Err}
 use Rattle.session_undo.specs.Replies.{Reply, Done, Limit, Kind, MayRefuse, accepted}
-use Rattle.scenes.specs.Scene.{History, Scene, with_earlier, with_line}
+use Rattle.scenes.specs.Scene.{AreDraftRows, History, IsBestScene, Scene, with_earlier, with_line}
 use Rattle.session_undo.specs.State.{State}
-use Rattle.session_undo.specs.Machine.{TriedUndo, Unless, UnlessAny, Keeps, Solves, SolvesFree, TriedLine, AddsLine, IsCrowded}
+use Rattle.session_undo.specs.Machine.{TriedUndo, Unless, UnlessAny, Keeps, Solves, SolvesFree, Stands, TriedLine, AddsLine, IsCrowded}
 use Rattle.scenes.specs.Steps.{IsSolved}
 use Rattle.diagnosis.specs.Probes.{NoConflict}
 use Rattle.session_undo.specs.Adding.{refusal_of, answer_of, NoEnd, UnlessFull, AddStop, StopStep, IsGroupLimit, IsGroupFree, IsLineLimit, IsLineFree, IsFreeLine}
@@ -94,6 +94,20 @@ module _ (draft : Scene) (old : State) (history : History) where
       → IfErr (answer_of end) (MayRefuse (λ reply. Solves old draft reply old))
   run-refused (Ok done) stops = tt
   run-refused (Err stop) stops = stop-refuses draft old stop stops
+
+-- ---- standing
+
+-- where the scene is the draft, with the rows of what is held and the best values, that is what it comes to
+pub stands : (draft : Scene) (old : State) (history : History) → history.scene ≡ draft → AreDraftRows history.scene history.scene.rows → IsBestScene history.scene → IsKeptIn old history
+    → Stands old draft Done (after old history)
+stands draft old history is rows best kept = record {
+  done = refl;
+  rows = subst (λ (scene : Scene). AreDraftRows scene scene.rows) is rows;
+  best = subst IsBestScene is best;
+  kept =
+      ap (λ (scene : Scene). record (after old history) { scene = scene }) is
+      ∙ ap (λ (earlier : List Scene). record old { scene = draft; earlier = earlier }) kept;
+}
 
 -- ---- taking back
 

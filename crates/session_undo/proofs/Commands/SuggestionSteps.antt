@@ -6,6 +6,7 @@ use Rattle.frac_core.specs.Fraction.{Fraction}
 use Rattle.span_text.specs.Objects.{Meant, object_view}
 use Rattle.span_text.specs.declared.object.Object.{Object}
 use Rattle.script_text.specs.declared.words.AttrWord.{AttrWord}
+use Rattle.script_text.specs.declared.words.Direction.{Direction}
 use Rattle.view_tree.specs.Views.{LiveView, view_named}
 use Rattle.compile_parts.specs.Meaning.{IsRank, unknown_object}
 use Rattle.constraint_compile.specs.Suggestions.{suggested_priority}
@@ -46,9 +47,9 @@ release-causes old name attr End reply new (inr (a, (view, found, inr (b, never)
 
 -- ---- no cause is there
 
--- the suggestion with this row, of this attribute of this view
-abbrev placed : Suggestion → ℕ → ℕ → AttrWord → Suggestion
-placed s row view word = record { row = row; rank = s.rank; view = view; word = word; constant = s.constant }
+-- the suggestion with this row, of this attribute of this view, in this direction
+abbrev placed : Suggestion → ℕ → ℕ → AttrWord → Direction → Suggestion
+placed s row view word d = record { row = row; rank = s.rank; view = view; word = word; direction = d; constant = s.constant }
 
 pub first-passed : (old : State) (name : List ℕ) (attr : AttrWord) (value : Fraction) (priority : Option Meant) (s : Suggestion) (End : Scene → Reply → State → Type 0) (reply : Reply) (new : State)
     → IsFirstSuggestion old name attr value priority s → End (with_suggestion old.scene s) reply new → TriedSuggest old name attr value priority End reply new
@@ -71,10 +72,11 @@ first-passed old name attr value priority s End reply new first end =
       ),
     )
   where
-    same : s ≡ placed s old.scene.next_row first.view.id attr
+    same : s ≡ placed s old.scene.next_row first.view.id attr old.scene.direction
     same =
-        ap (λ (row : ℕ). placed s row s.view s.word) first.row ∙ ap (λ (view : ℕ). placed s old.scene.next_row view s.word) first.is.view_is
-        ∙ ap (λ (word : AttrWord). placed s old.scene.next_row first.view.id word) first.is.word
+        ap (λ (row : ℕ). placed s row s.view s.word s.direction) first.row ∙ ap (λ (view : ℕ). placed s old.scene.next_row view s.word s.direction) first.is.view_is
+        ∙ ap (λ (word : AttrWord). placed s old.scene.next_row first.view.id word s.direction) first.is.word
+        ∙ ap (λ (d : Direction). placed s old.scene.next_row first.view.id attr d) first.direction
 
 pub later-passed : (old : State) (name : List ℕ) (attr : AttrWord) (value : Fraction) (priority : Option Meant) (s : Suggestion) (End : Scene → Reply → State → Type 0) (reply : Reply) (new : State)
     → IsLaterSuggestion old name attr value priority s → End (with_suggested old.scene s.view s.word s.constant) reply new → TriedSuggest old name attr value priority End reply new

@@ -7,6 +7,7 @@ use Rattle.corner_joins.specs.Additions.RowJoins.{ArePushed}
 use Rattle.corner_table.specs.Tables.{lists_of, marks_at, problem_of}
 use Rattle.corner_joins.proofs.Additions.RowPaths.{begins_one, none_pushed, one_pushed}
 use Rattle.corner_joins.proofs.Additions.RowStops.{add_stop, loop_whole, next_rows, rest_rows, stopped, this_row, values_one}
+use Rattle.corner_joins.proofs.Additions.RowFits.{all_rows_fit, next_rows_fit, no_rows_fit}
 use Rattle.corner_joins.proofs.joining.push_rows.Goals as goal
 use Rattle.corner_joins.proofs.Basics.SmallFacts.{same_again as history_trans}
 
@@ -17,6 +18,7 @@ loop-i-init c = record {
   begins = begins_none (problem_of (lists_of c.args.table.now)) (marks_at (lists_of c.args.table.now)) c.requires.kept.corner;
   kept = c.requires.kept;
   values = c.requires.values;
+  fits = no_rows_fit (lists_of c.args.table.now) c.args.rows.now;
 }
 
 pub push_row-requires : goal.push_row-requires
@@ -49,4 +51,10 @@ loop-i-preserved c =
           (begins_one (marks_at (lists_of c.args.table.now)) (take c.loop-i.i c.args.rows.now) (lists_of c.loop-i.table) (lists_of c.push_row.new.table) c.index-rows-i.result whole c.loop-i.invariant.kept.corner c.loop-i.invariant.begins c.in_default.ensures.joined);
       kept = c.in_default.ensures.kept;
       values = values_one (lists_of c.loop-i.table) (lists_of c.push_row.new.table) c.index-rows-i.result whole c.loop-i.invariant.kept.corner c.loop-i.invariant.values c.in_default.ensures.joined;
+      fits = next_rows_fit (lists_of c.args.table.now) (lists_of c.loop-i.table) c.args.rows.now c.loop-i.i c.index-rows-i.result
+          (stopped (lists_of c.args.table.now) (lists_of c.loop-i.table) c.args.rows.now c.loop-i.i c.index-rows-i.result c.loop-i.invariant.lists c.requires.whole c.loop-i-test.true c.index-rows-i.is c.loop-i.invariant.kept c.loop-i.invariant.begins c.loop-i.invariant.values)
+          c.requires.kept.corner c.in_default.ensures.fits c.loop-i-test.true c.index-rows-i.is c.loop-i.invariant.fits;
     }
+
+pub returns-clause-fits : goal.returns-clause-fits
+returns-clause-fits c = all_rows_fit (lists_of c.args.table.now) c.args.rows.now c.loop-i.i c.loop-i-test.false c.loop-i.invariant.fits

@@ -4,6 +4,7 @@ use Rattle.problem_core.specs.Corners.{NoNegativeValue}
 use Rattle.corner_table.specs.Histories.{HasSameHistory}
 use Rattle.corner_joins.specs.Additions.Parts.{IsPartlyKept}
 use Rattle.corner_joins.specs.Additions.RowJoins.{ArePushed}
+use Rattle.corner_joins.specs.Additions.SumFits.{DoRowsFit}
 use Rattle.corner_table.specs.Tables.{lists_of, marks_at, problem_of}
 use Rattle.corner_joins.proofs.joining.push_rows.Given as goal
 
@@ -14,4 +15,5 @@ invariant-loop-i l = record {
   begins : BeginsWith (problem_of (lists_of l.table)) (marks_at (lists_of l.fn.table)) (take l.i l.rows) [] (marks_at (lists_of l.table));
   kept : IsPartlyKept (lists_of l.table);
   values : NoNegativeValue (problem_of (lists_of l.table)) (marks_at (lists_of l.table));
+  fits : DoRowsFit (lists_of l.fn.table) l.rows l.i;
 }

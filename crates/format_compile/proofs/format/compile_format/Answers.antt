@@ -14,7 +14,7 @@ returns-in_err-rows-clause-stop c =
     let asks : AreAsks c.args.tree.now.views c.args.metrics.now (lines_of c.args.tree.now.views (parts_view c.in_ok-parts.parts.items)) c.deref-2.result.now =
     subst (AreAsks c.args.tree.now.views c.args.metrics.now (lines_of c.args.tree.now.views (parts_view c.in_ok-parts.parts.items))) (sym c.deref-2.ensures.value)
     (subst (λ (ps : List Part). AreAsks c.args.tree.now.views c.args.metrics.now (lines_of c.args.tree.now.views (parts_view ps)) c.in_ok-asked.asked.rows.items) c.deref.ensures.value c.in_ok-asked.ensures.asks) in
-    let h : MayStopFormat c.args.tree.now.views c.args.metrics.now (meaning c.args.format.now) c.args.align c.args.first_row c.in_err-rows.field-0.0 = parts_stop c.args.tree.now.views c.args.metrics.now (meaning c.args.format.now) c.args.align c.args.first_row c.in_err-rows.field-0.0 (parts_view c.in_ok-parts.parts.items) c.in_ok-parts.ensures
+    let h : MayStopFormat c.args.tree.now.views c.args.metrics.now (meaning c.args.format.now) c.args.align c.args.direction c.args.first_row c.in_err-rows.field-0.0 = parts_stop c.args.tree.now.views c.args.metrics.now (meaning c.args.format.now) c.args.align c.args.direction c.args.first_row c.in_err-rows.field-0.0 (parts_view c.in_ok-parts.parts.items) c.in_ok-parts.ensures
     (subst (λ (ps : List Part). IsUsableFormat c.args.tree.now.views c.args.metrics.now c.args.format.now.axis c.args.align (parts_view ps)) c.deref.ensures.value c.in_ok-asked.ensures.usable)
     (subst (λ (ps : List Part). IsPastNumbers c.args.first_row (row_count c.args.tree.now.views (parts_view ps)) → ⊥) c.deref.ensures.value c.in_ok-asked.ensures.numbers)
     (c.in_err-rows.ensures.stop c.args.tree.now.views (lines_of c.args.tree.now.views (parts_view c.in_ok-parts.parts.items)) asks) in

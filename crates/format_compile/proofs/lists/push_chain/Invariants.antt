@@ -7,7 +7,7 @@ use Rattle.format_compile.proofs.lists.push_chain.Given as goal
 
 abbrev pub invariant-loop-i : goal.invariant-loop-i
 invariant-loop-i l = record {
-  parts : parts_view l.out.items ++ chain_parts l.axis l.before (spacing_meanings (drop l.i l.spacings)) (item_meanings (drop l.i l.items)) ≡ parts_view l.fn.out.items ++ chain_parts l.axis l.first (spacing_meanings l.spacings) (item_meanings l.items);
+  parts : parts_view l.out.items ++ chain_parts l.course l.before (spacing_meanings (drop l.i l.spacings)) (item_meanings (drop l.i l.items)) ≡ parts_view l.fn.out.items ++ chain_parts l.course l.first (spacing_meanings l.spacings) (item_meanings l.items);
   last : last_name l.before (item_meanings (drop l.i l.items)) ≡ last_name l.first (item_meanings l.items);
   text : IsUtf8 l.before;
 }

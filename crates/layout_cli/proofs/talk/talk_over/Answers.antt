@@ -8,7 +8,7 @@ use Rattle.line_by_line.proofs.Others.{end_too, nothing_answered}
 use Rattle.line_by_line.proofs.Stops.{end_as}
 use Rattle.layout_cli.specs.Machine.{IsRunOf}
 use Rattle.layout_cli.specs.declared.talk.Talk.{Talk}
-use Rattle.layout_cli.proofs.Lines.{by_session, is_run, no_run}
+use Rattle.layout_cli.proofs.Lines.{by_talking, is_run, no_run}
 use Rattle.layout_cli.proofs.talk.talk_over.Goals as goal
 
 pub returns-in_err-talk-clause-ends : goal.returns-in_err-talk-clause-ends
@@ -26,5 +26,5 @@ returns-clause-ends g c =
     let old : Outside = record { left = g.S.Source.left c.args.source.now; held = g.K.Sink.held c.args.sink.now; reads_failed = g.S.Source.faults c.args.source.now; writes_failed = g.K.Sink.faults c.args.sink.now } in
     let new : Outside = record { left = g.S.Source.left c.answer_script.new.script; held = g.K.Sink.held c.answer_script.new.sink; reads_failed = g.S.Source.faults c.answer_script.new.script; writes_failed = g.K.Sink.faults c.answer_script.new.sink } in
     let first : Talk = c.in_ok-talk.talk in
-    end_too (texts_of (by_session (λ (t : Talk). t.session)) first) IsRunOf old new c.answer_script.result
-    (is_run (λ (t : Talk). t.session) first c.in_ok-talk.ensures) c.answer_script.ensures.ends
+    end_too (texts_of (by_talking (λ (t : Talk). t.responder)) first) IsRunOf old new c.answer_script.result
+    (is_run (λ (t : Talk). t.responder) first c.in_ok-talk.ensures.first c.in_ok-talk.ensures.unbegun) c.answer_script.ensures.ends

@@ -1,8 +1,8 @@
 use Rattle.std.proofs.Common.{subst, sym}
 use Rattle.problem_core.specs.Corners.{NoNegativeValue}
-use Rattle.corner_joins.specs.Stops.{IsAddStop}
+use Rattle.corner_joins.specs.Stops.{AllSumsFit, IsAddStop}
 use Rattle.corner.specs.Views.{CornerView}
-use Rattle.corner.proofs.Additions.AddedConsistent.{added_consistent, seen_stop}
+use Rattle.corner.proofs.Additions.AddedConsistent.{added_consistent, seen_fits, seen_stop}
 use Rattle.corner.proofs.corner.Corner.add_rows.Goals as goal
 
 pub join_all-requires-clause-values : goal.join_all-requires-clause-values
@@ -15,3 +15,7 @@ invariant_of-self c =
 pub returns-in-Err-clause-stop : goal.returns-in-Err-clause-stop
 returns-in-Err-clause-stop c =
     subst (λ (v : CornerView). IsAddStop v c.args.rows.now c.in-Err.stop) c.self.view_is (seen_stop c.self.inside.table c.self.inside.listed c.args.rows.now c.in-Err.stop c.in-Err.ensures.stop)
+
+pub returns-in-Ok-clause-fits : goal.returns-in-Ok-clause-fits
+returns-in-Ok-clause-fits c =
+    subst (λ (v : CornerView). AllSumsFit v c.args.rows.now) c.self.view_is (seen_fits c.self.inside.table c.self.inside.listed c.args.rows.now c.in-Ok.ensures.fits)

@@ -5,4 +5,4 @@ use Rattle.scenes.proofs.scene.Scene.certificate.Goals as goal
 pub returns : goal.returns
 returns c =
     rw (← c.self.view_is)
-    (certificate-scene c.self.inside.tree c.self.inside.metrics (items_of c.self.inside.items.items) c.self.inside.next_row c.self.inside.engine c.certificate.result c.show_layout.ensures.layout c.certificate.ensures.own c.certificate.ensures.certified)
+    (certificate-scene c.self.inside.tree c.self.inside.metrics (items_of c.self.inside.items.items) c.self.inside.setting c.self.inside.engine c.certificate.result c.show_layout.ensures.layout c.certificate.ensures.own c.certificate.ensures.certified)

@@ -12,7 +12,7 @@ returns-in_err-constants-clause-stop c =
     let exit = err_from_is_err_and c.from_residual.result c.from_residual.ensures.1 in
     rw (exit.1, exit.2)
     (rw (← c.self.view_is)
-    (changes-lack c.self.inside.tree c.self.inside.metrics (items_of c.self.inside.items.items) c.self.inside.next_row c.self.inside.engine c.args.name.now c.args.metrics.now c.in_err-constants.field-0.0 (rw c.as_slice.ensures at c.in_err-constants.ensures.stop)))
+    (changes-lack c.self.inside.tree c.self.inside.metrics (items_of c.self.inside.items.items) c.self.inside.setting c.self.inside.engine c.args.name.now c.args.metrics.now c.in_err-constants.field-0.0 (rw c.as_slice.ensures at c.in_err-constants.ensures.stop)))
 
 pub returns-in-Some-clause-changes : goal.returns-in-Some-clause-changes
 returns-in-Some-clause-changes c =
@@ -21,7 +21,7 @@ returns-in-Some-clause-changes c =
     let moves = rw (c.in-Some.is, c.rows.ensures, c.deref.ensures.value) at c.in_ok-to.ensures.some in
     let kept : AreKept c.in-Some.to.items = rw c.in-Some.is at c.in_ok-to.ensures.kept in
     rw (← c.self.view_is)
-    (changes-made c.self.inside.tree c.self.inside.metrics (items_of c.self.inside.items.items) c.self.inside.next_row c.self.inside.engine c.args.name.now c.args.metrics.now same c.self.invariant.0.scene.are_rows c.show_layout.ensures.whole c.in_ok-constants.constants.items own c.in-Some.to.items moves kept)
+    (changes-made c.self.inside.tree c.self.inside.metrics (items_of c.self.inside.items.items) c.self.inside.setting c.self.inside.engine c.args.name.now c.args.metrics.now same c.self.invariant.0.scene.are_rows c.show_layout.ensures.whole c.in_ok-constants.constants.items own c.in-Some.to.items moves kept)
 
 pub returns-clause-stop : goal.returns-clause-stop
 returns-clause-stop c =
@@ -29,4 +29,4 @@ returns-clause-stop c =
     let own = rw c.as_slice.ensures at c.in_ok-constants.ensures.constants in
     let far = rw (c.in-None.is, c.rows.ensures, c.deref.ensures.value) at c.in_ok-to.ensures.none in
     rw (← c.self.view_is)
-    (changes-far c.self.inside.tree c.self.inside.metrics (items_of c.self.inside.items.items) c.self.inside.next_row c.self.inside.engine c.args.name.now c.args.metrics.now same c.self.invariant.0.scene.are_rows c.show_layout.ensures.whole c.in_ok-constants.constants.items own (record {}) far)
+    (changes-far c.self.inside.tree c.self.inside.metrics (items_of c.self.inside.items.items) c.self.inside.setting c.self.inside.engine c.args.name.now c.args.metrics.now same c.self.invariant.0.scene.are_rows c.show_layout.ensures.whole c.in_ok-constants.constants.items own (record {}) far)

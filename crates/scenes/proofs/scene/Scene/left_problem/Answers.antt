@@ -14,7 +14,7 @@ pub with_less-requires : goal.with_less-requires
 with_less-requires c =
     let going = rw (← c.self.view_is) at c.requires in
     rw (c.deref.ensures.value, c.deref-2.ensures.value, c.in_ok-rows.ensures, c.in_ok-attrs.ensures, c.as_slice.ensures)
-    (views-can c.self.inside.tree c.self.inside.metrics (items_of c.self.inside.items.items) c.self.inside.next_row c.self.inside.engine c.self.invariant.0.scene c.show_layout.ensures.layout c.len-count.ensures.tree going.0 c.args.gone.now going.1 going.2)
+    (views-can c.self.inside.tree c.self.inside.metrics (items_of c.self.inside.items.items) c.self.inside.setting c.self.inside.engine c.self.invariant.0.scene c.show_layout.ensures.layout c.len-count.ensures.tree going.0 c.args.gone.now going.1 going.2)
 
 pub attributes_in-requires : goal.attributes_in-requires
 attributes_in-requires c =
@@ -26,6 +26,6 @@ returns c =
     let going = rw (← c.self.view_is) at c.requires in
     rw (← c.self.view_is)
     (IfOk-weaker c.with_less.result (λ (p : Problem). p ≡ with_removed c.self.inside.engine (record { rows = numbers_of (goes_with c.args.gone.now) (items_of c.self.inside.items.items); attrs = attributes_in c.args.gone.now }))
-    (λ (p : Problem). IsProblemOf (without_views (scene_at c.self.inside.tree c.self.inside.metrics (items_of c.self.inside.items.items) c.self.inside.next_row c.self.inside.engine) c.args.gone.now) p)
-    (λ p made. views-pose c.self.inside.tree c.self.inside.metrics (items_of c.self.inside.items.items) c.self.inside.next_row c.self.inside.engine c.self.invariant.0.scene c.show_layout.ensures.layout c.len-count.ensures.tree going.0 c.args.gone.now going.1 going.2 p made)
+    (λ (p : Problem). IsProblemOf (without_views (scene_at c.self.inside.tree c.self.inside.metrics (items_of c.self.inside.items.items) c.self.inside.setting c.self.inside.engine) c.args.gone.now) p)
+    (λ p made. views-pose c.self.inside.tree c.self.inside.metrics (items_of c.self.inside.items.items) c.self.inside.setting c.self.inside.engine c.self.invariant.0.scene c.show_layout.ensures.layout c.len-count.ensures.tree going.0 c.args.gone.now going.1 going.2 p made)
     (rw (c.deref.ensures.value, c.deref-2.ensures.value, c.in_ok-rows.ensures, c.in_ok-attrs.ensures, c.as_slice.ensures) at c.with_less.ensures))

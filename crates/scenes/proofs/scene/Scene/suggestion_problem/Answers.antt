@@ -9,25 +9,24 @@ use Rattle.scenes.specs.Kept.{IsNextItem, scene_at}
 use Rattle.held_items.specs.Kept.{items_of}
 use Rattle.scenes.specs.Steps.{IsProblemOf}
 use Rattle.scenes.specs.Scene.{History, Scene, with_item, with_suggestion}
-use Rattle.scenes.proofs.NextItems.{count-draft, suggestion-next}
-use Rattle.scenes.proofs.SuggestionScenes.{suggestion-own}
+use Rattle.scenes.proofs.NextItems.{count-draft, suggestion-next, suggestion-own}
 use Rattle.scenes.proofs.scene.Scene.suggestion_problem.Goals as goal
 
 pub suggestion_rows-requires : goal.suggestion_rows-requires
-suggestion_rows-requires c = suggestion-own c.self.inside.tree c.self.inside.metrics (items_of c.self.inside.items.items) c.self.inside.next_row c.self.inside.engine c.args.new.now c.self.invariant.0.scene c.len-count.ensures.tree (subst (λ (h : History). IsNextSuggestion h.scene c.args.new.now) (sym c.self.view_is) c.requires.next) (subst (λ (h : History). h.scene.next_row < NUMBER_LIMIT) (sym c.self.view_is) c.requires.number)
+suggestion_rows-requires c = suggestion-own c.self.inside.tree c.self.inside.metrics (items_of c.self.inside.items.items) c.self.inside.setting c.self.inside.engine c.args.new.now c.self.invariant.0.scene c.len-count.ensures.tree (subst (λ (h : History). IsNextSuggestion h.scene c.args.new.now) (sym c.self.view_is) c.requires.next) (subst (λ (h : History). h.scene.next_row < NUMBER_LIMIT) (sym c.self.view_is) c.requires.number)
 
 pub item_problem-requires : goal.item_problem-requires
 item_problem-requires c =
     rw (← c.self.view_is) (
       Suggested c.args.new.now,
-      suggestion-next c.self.inside.tree c.self.inside.metrics (items_of c.self.inside.items.items) c.self.inside.next_row c.self.inside.engine c.self.invariant.0.scene c.args.new.now c.in_ok-rows.rows.items c.len-count.ensures.tree (subst (λ (h : History). IsNextSuggestion h.scene c.args.new.now) (sym c.self.view_is) c.requires.next) (subst (λ (h : History). h.scene.next_row < NUMBER_LIMIT) (sym c.self.view_is) c.requires.number) c.in_ok-rows.ensures.rows c.in_ok-rows.ensures.each (subst (λ (h : History). length h.scene.rows + 1 ≤ MOST_ROWS) (sym c.self.view_is) c.requires.room),
+      suggestion-next c.self.inside.tree c.self.inside.metrics (items_of c.self.inside.items.items) c.self.inside.setting c.self.inside.engine c.self.invariant.0.scene c.args.new.now c.in_ok-rows.rows.items c.len-count.ensures.tree (subst (λ (h : History). IsNextSuggestion h.scene c.args.new.now) (sym c.self.view_is) c.requires.next) (subst (λ (h : History). h.scene.next_row < NUMBER_LIMIT) (sym c.self.view_is) c.requires.number) c.in_ok-rows.ensures.rows c.in_ok-rows.ensures.each (subst (λ (h : History). length h.scene.rows + 1 ≤ MOST_ROWS) (sym c.self.view_is) c.requires.room),
     )
 
 pub returns : goal.returns
 returns c =
     rw (← c.self.view_is)
-    (IfOk-weaker c.item_problem.result (λ (p : Problem). (item : Item) → IsNextItem (scene_at c.self.inside.tree c.self.inside.metrics (items_of c.self.inside.items.items) c.self.inside.next_row c.self.inside.engine) item c.in_ok-rows.rows.items → IsProblemOf (with_item (scene_at c.self.inside.tree c.self.inside.metrics (items_of c.self.inside.items.items) c.self.inside.next_row c.self.inside.engine) item (length c.in_ok-rows.rows.items)) p)
-    (λ (p : Problem). IsProblemOf (with_suggestion (scene_at c.self.inside.tree c.self.inside.metrics (items_of c.self.inside.items.items) c.self.inside.next_row c.self.inside.engine) c.args.new.now) p)
-    (λ p of. subst (λ (d : Scene). IsProblemOf d p) (count-draft (scene_at c.self.inside.tree c.self.inside.metrics (items_of c.self.inside.items.items) c.self.inside.next_row c.self.inside.engine) (Suggested c.args.new.now) (length c.in_ok-rows.rows.items) 1 (ap length c.in_ok-rows.ensures.rows))
-    (of (Suggested c.args.new.now) (suggestion-next c.self.inside.tree c.self.inside.metrics (items_of c.self.inside.items.items) c.self.inside.next_row c.self.inside.engine c.self.invariant.0.scene c.args.new.now c.in_ok-rows.rows.items c.len-count.ensures.tree (subst (λ (h : History). IsNextSuggestion h.scene c.args.new.now) (sym c.self.view_is) c.requires.next) (subst (λ (h : History). h.scene.next_row < NUMBER_LIMIT) (sym c.self.view_is) c.requires.number) c.in_ok-rows.ensures.rows c.in_ok-rows.ensures.each (subst (λ (h : History). length h.scene.rows + 1 ≤ MOST_ROWS) (sym c.self.view_is) c.requires.room))))
+    (IfOk-weaker c.item_problem.result (λ (p : Problem). (item : Item) → IsNextItem (scene_at c.self.inside.tree c.self.inside.metrics (items_of c.self.inside.items.items) c.self.inside.setting c.self.inside.engine) item c.in_ok-rows.rows.items → IsProblemOf (with_item (scene_at c.self.inside.tree c.self.inside.metrics (items_of c.self.inside.items.items) c.self.inside.setting c.self.inside.engine) item (length c.in_ok-rows.rows.items)) p)
+    (λ (p : Problem). IsProblemOf (with_suggestion (scene_at c.self.inside.tree c.self.inside.metrics (items_of c.self.inside.items.items) c.self.inside.setting c.self.inside.engine) c.args.new.now) p)
+    (λ p of. subst (λ (d : Scene). IsProblemOf d p) (count-draft (scene_at c.self.inside.tree c.self.inside.metrics (items_of c.self.inside.items.items) c.self.inside.setting c.self.inside.engine) (Suggested c.args.new.now) (length c.in_ok-rows.rows.items) 1 (ap length c.in_ok-rows.ensures.rows))
+    (of (Suggested c.args.new.now) (suggestion-next c.self.inside.tree c.self.inside.metrics (items_of c.self.inside.items.items) c.self.inside.setting c.self.inside.engine c.self.invariant.0.scene c.args.new.now c.in_ok-rows.rows.items c.len-count.ensures.tree (subst (λ (h : History). IsNextSuggestion h.scene c.args.new.now) (sym c.self.view_is) c.requires.next) (subst (λ (h : History). h.scene.next_row < NUMBER_LIMIT) (sym c.self.view_is) c.requires.number) c.in_ok-rows.ensures.rows c.in_ok-rows.ensures.each (subst (λ (h : History). length h.scene.rows + 1 ≤ MOST_ROWS) (sym c.self.view_is) c.requires.room))))
     (rw (← c.self.view_is) at c.item_problem.ensures))

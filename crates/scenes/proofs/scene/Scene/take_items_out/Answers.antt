@@ -14,23 +14,23 @@ use Rattle.scenes.proofs.scene.Scene.take_items_out.Goals as goal
 pub take_out-requires : goal.take_out-requires
 take_out-requires c =
     rw (c.deref.ensures.value, c.in_ok-rows.ensures, c.as_slice.ensures)
-    (record { marked = omega (arith, ap length c.in_ok-take_leaving_out.ensures.before); room = few-solutions c.self.inside.items.before c.self.inside.engine.earlier c.self.inside.pasts.items c.self.invariant.1; leave = group-can c.self.inside.tree c.self.inside.metrics (items_of c.self.inside.items.items) c.self.inside.next_row c.self.inside.engine c.self.invariant.0.scene c.show_layout.ensures.layout (is_leaving c.args.leaver) })
+    (record { marked = omega (arith, ap length c.in_ok-take_leaving_out.ensures.before); room = few-solutions c.self.inside.items.before c.self.inside.engine.earlier c.self.inside.pasts.items c.self.invariant.1; leave = group-can c.self.inside.tree c.self.inside.metrics (items_of c.self.inside.items.items) c.self.inside.setting c.self.inside.engine c.self.invariant.0.scene c.show_layout.ensures.layout (is_leaving c.args.leaver) })
 
 pub returns-in_err-take_out-clause-stop : goal.returns-in_err-take_out-clause-stop
 returns-in_err-take_out-clause-stop c =
     let exit = err_from_is_err_and c.from_residual-in_err-take_out.result c.from_residual-in_err-take_out.ensures.1 in
     rw (exit.1, exit.2)
     (rw (← c.self.view_is)
-    (group-stops c.self.inside.tree c.self.inside.metrics (items_of c.self.inside.items.items) c.self.inside.next_row c.self.inside.engine c.self.invariant.0.scene c.show_layout.ensures.layout (is_leaving c.args.leaver) c.args.budget c.in_err-take_out.field-0.0
+    (group-stops c.self.inside.tree c.self.inside.metrics (items_of c.self.inside.items.items) c.self.inside.setting c.self.inside.engine c.self.invariant.0.scene c.show_layout.ensures.layout (is_leaving c.args.leaver) c.args.budget c.in_err-take_out.field-0.0
     (rw (c.deref.ensures.value, c.in_ok-rows.ensures, c.as_slice.ensures) at c.in_err-take_out.ensures.stop)))
 
 pub invariant_of-self-2 : goal.invariant_of-self-2
 invariant_of-self-2 c = (
-  next-history c.self.inside.tree c.self.inside.tree c.self.inside.metrics c.self.inside.metrics c.self.inside.items c.self.inside.next_row c.self.inside.engine c.self.inside.pasts.items c.alike-past.result (rw c.alike-past.ensures refl) (rw c.alike-past.ensures refl) (rw c.alike-past.ensures refl)
-      c.keep.new.items c.self.inside.next_row c.keep.new.engine c.keep.new.pasts.items c.take_leaving_out.new.items.before c.take_out.new.engine.earlier
+  next-history c.self.inside.tree c.self.inside.tree c.self.inside.metrics c.self.inside.metrics c.self.inside.items c.self.inside.setting c.self.inside.engine c.self.inside.pasts.items c.alike-past.result (rw c.alike-past.ensures refl) (rw c.alike-past.ensures refl) (rw c.alike-past.ensures refl)
+      c.keep.new.items c.self.inside.setting c.keep.new.engine c.keep.new.pasts.items c.take_leaving_out.new.items.before c.take_out.new.engine.earlier
       c.in_ok-take_leaving_out.ensures.before c.in_ok-take_out.ensures.earlier (rw c.in_ok-take_out.ensures.items at c.keep.ensures.items) c.keep.ensures.solutions c.keep.ensures.pasts c.self.invariant.0
-      (subst IsKept (kept-scene c.self.inside.tree c.self.inside.metrics c.take_leaving_out.new.items.items c.keep.new.items.items c.self.inside.next_row c.take_out.new.engine c.keep.new.engine (rw c.in_ok-take_out.ensures.items at c.keep.ensures.now) c.keep.ensures.solution)
-      (group-kept c.self.inside.tree c.self.inside.metrics (items_of c.self.inside.items.items) c.self.inside.next_row c.self.inside.engine c.self.invariant.0.scene c.show_layout.ensures.layout (is_leaving c.args.leaver)
+      (subst IsKept (kept-scene c.self.inside.tree c.self.inside.metrics c.take_leaving_out.new.items.items c.keep.new.items.items c.self.inside.setting c.take_out.new.engine c.keep.new.engine (rw c.in_ok-take_out.ensures.items at c.keep.ensures.now) c.keep.ensures.solution)
+      (group-kept c.self.inside.tree c.self.inside.metrics (items_of c.self.inside.items.items) c.self.inside.setting c.self.inside.engine c.self.invariant.0.scene c.show_layout.ensures.layout (is_leaving c.args.leaver)
       (items_of c.take_leaving_out.new.items.items) c.take_out.new.engine (rw (c.deref.ensures.value, c.in_ok-rows.ensures, c.as_slice.ensures) at c.in_ok-take_out.ensures.done) c.in_ok-take_leaving_out.ensures.items)),
   c.keep.ensures.alike,
   rw c.keep.ensures.capacity c.self.invariant.2,
@@ -39,7 +39,7 @@ invariant_of-self-2 c = (
 pub returns-clause-earlier : goal.returns-clause-earlier
 returns-clause-earlier c =
     rw (← c.self.view_is)
-    (kept-earlier c.self.inside.tree c.self.inside.tree c.self.inside.metrics c.self.inside.metrics c.self.inside.items c.self.inside.next_row c.self.inside.engine c.self.inside.pasts.items c.alike-past.result (rw c.alike-past.ensures refl) (rw c.alike-past.ensures refl) (rw c.alike-past.ensures refl)
+    (kept-earlier c.self.inside.tree c.self.inside.tree c.self.inside.metrics c.self.inside.metrics c.self.inside.items c.self.inside.setting c.self.inside.engine c.self.inside.pasts.items c.alike-past.result (rw c.alike-past.ensures refl) (rw c.alike-past.ensures refl) (rw c.alike-past.ensures refl)
     c.take_leaving_out.new.items.before c.keep.new.items.before c.take_out.new.engine.earlier c.keep.new.engine.earlier c.keep.new.pasts.items
     c.in_ok-take_leaving_out.ensures.before c.in_ok-take_out.ensures.earlier (rw c.in_ok-take_out.ensures.items at c.keep.ensures.items) c.keep.ensures.solutions c.keep.ensures.pasts)
 
@@ -56,9 +56,9 @@ keep-requires c =
 pub returns-clause-left : goal.returns-clause-left
 returns-clause-left c =
     rw (← c.self.view_is)
-    (subst (λ (s : Scene). HasLeft (scene_at c.self.inside.tree c.self.inside.metrics (items_of c.self.inside.items.items) c.self.inside.next_row c.self.inside.engine) (without_items (scene_at c.self.inside.tree c.self.inside.metrics (items_of c.self.inside.items.items) c.self.inside.next_row c.self.inside.engine) (is_leaving c.args.leaver)) c.args.budget s)
-    (kept-scene c.self.inside.tree c.self.inside.metrics c.take_leaving_out.new.items.items c.keep.new.items.items c.self.inside.next_row c.take_out.new.engine c.keep.new.engine (rw c.in_ok-take_out.ensures.items at c.keep.ensures.now) c.keep.ensures.solution)
-    (group-left c.self.inside.tree c.self.inside.metrics (items_of c.self.inside.items.items) c.self.inside.next_row c.self.inside.engine c.self.invariant.0.scene c.show_layout.ensures.layout (is_leaving c.args.leaver)
+    (subst (λ (s : Scene). HasLeft (scene_at c.self.inside.tree c.self.inside.metrics (items_of c.self.inside.items.items) c.self.inside.setting c.self.inside.engine) (without_items (scene_at c.self.inside.tree c.self.inside.metrics (items_of c.self.inside.items.items) c.self.inside.setting c.self.inside.engine) (is_leaving c.args.leaver)) c.args.budget s)
+    (kept-scene c.self.inside.tree c.self.inside.metrics c.take_leaving_out.new.items.items c.keep.new.items.items c.self.inside.setting c.take_out.new.engine c.keep.new.engine (rw c.in_ok-take_out.ensures.items at c.keep.ensures.now) c.keep.ensures.solution)
+    (group-left c.self.inside.tree c.self.inside.metrics (items_of c.self.inside.items.items) c.self.inside.setting c.self.inside.engine c.self.invariant.0.scene c.show_layout.ensures.layout (is_leaving c.args.leaver)
     (items_of c.take_leaving_out.new.items.items) c.take_out.new.engine (rw (c.deref.ensures.value, c.in_ok-rows.ensures, c.as_slice.ensures) at c.in_ok-take_out.ensures.done) c.in_ok-take_leaving_out.ensures.items c.args.budget c.in_ok-take_out.ensures.best
     (rw (c.deref.ensures.value, c.in_ok-rows.ensures, c.as_slice.ensures) at c.in_ok-take_out.ensures.run)))
 
@@ -68,8 +68,8 @@ take_leaving_out-requires c = few-items c.self.inside.items.before c.self.inside
 pub invariant_of-self-in_err-take_out : goal.invariant_of-self-in_err-take_out
 invariant_of-self-in_err-take_out c =
     let same = refused-items c.self.inside.items c.take_out.new.items c.take_leaving_out.new.items.before c.in_ok-take_leaving_out.ensures.before c.in_err-take_out.ensures.back in (
-      unchanged-IsKept c.self.inside.tree c.self.inside.metrics c.self.inside.items c.take_out.new.items c.self.inside.next_row c.self.inside.engine c.take_out.new.engine c.self.inside.pasts.items same c.in_err-take_out.ensures.same c.self.invariant.0,
-      unchanged-AreAlike c.self.inside.tree c.self.inside.metrics c.self.inside.items c.take_out.new.items c.self.inside.next_row c.self.inside.engine c.take_out.new.engine c.self.inside.pasts.items same c.in_err-take_out.ensures.same c.self.invariant.1,
+      unchanged-IsKept c.self.inside.tree c.self.inside.metrics c.self.inside.items c.take_out.new.items c.self.inside.setting c.self.inside.engine c.take_out.new.engine c.self.inside.pasts.items same c.in_err-take_out.ensures.same c.self.invariant.0,
+      unchanged-AreAlike c.self.inside.tree c.self.inside.metrics c.self.inside.items c.take_out.new.items c.self.inside.setting c.self.inside.engine c.take_out.new.engine c.self.inside.pasts.items same c.in_err-take_out.ensures.same c.self.invariant.1,
       c.self.invariant.2,
     )
 
@@ -77,4 +77,4 @@ pub returns-in_err-take_out-clause-same : goal.returns-in_err-take_out-clause-sa
 returns-in_err-take_out-clause-same c =
     let exit = err_from_is_err_and c.from_residual-in_err-take_out.result c.from_residual-in_err-take_out.ensures.1 in
     rw (exit.1, ← c.self.view_is)
-    (refused-same c.self.inside.tree c.self.inside.metrics c.self.inside.items c.take_out.new.items c.self.inside.next_row c.self.inside.engine c.take_out.new.engine c.self.inside.pasts.items c.take_leaving_out.new.items.before c.in_ok-take_leaving_out.ensures.before c.in_err-take_out.ensures.back c.in_err-take_out.ensures.same)
+    (refused-same c.self.inside.tree c.self.inside.metrics c.self.inside.items c.take_out.new.items c.self.inside.setting c.self.inside.engine c.take_out.new.engine c.self.inside.pasts.items c.take_leaving_out.new.items.before c.in_ok-take_leaving_out.ensures.before c.in_err-take_out.ensures.back c.in_err-take_out.ensures.same)

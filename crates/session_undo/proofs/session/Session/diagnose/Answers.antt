@@ -8,7 +8,7 @@ use Rattle.session_undo.proofs.session.Session.diagnose.Goals.{in-Ok, in-Err}
 
 pub returns-clause-accepted : goal.returns-clause-accepted
 returns-clause-accepted c =
-    let old = (session_at c.self.inside.scene c.self.inside.budget c.self.inside.limits) in
+    let old = (session_at c.self.inside.scene c.self.inside.budget c.self.inside.limits c.self.inside.version) in
     elim c.match-diagnose.branch [
       | in-Ok w ↦ rw (w.result-is, ← c.self.view_is)
           (found-answer old (after old c.diagnose.new.self) w.in-Ok.found w.in-Ok.ensures.found (ap (λ (h : History). after old h) c.diagnose.ensures.same))
@@ -17,7 +17,7 @@ returns-clause-accepted c =
 
 pub returns-clause-refused : goal.returns-clause-refused
 returns-clause-refused c =
-    let old = (session_at c.self.inside.scene c.self.inside.budget c.self.inside.limits) in
+    let old = (session_at c.self.inside.scene c.self.inside.budget c.self.inside.limits c.self.inside.version) in
     elim c.match-diagnose.branch [
       | in-Ok w ↦ rw w.result-is tt
       | in-Err w ↦ rw (w.result-is, w.probe_refusal.ensures, ← c.self.view_is)

@@ -1,4 +1,4 @@
-use Rattle.session_undo.proofs.Commands.Drafts.{drop-draft, release-draft, remove-draft}
+use Rattle.session_undo.proofs.Commands.Drafts.{drop-draft, remove-draft}
 use Rattle.session_undo.proofs.session.Session.leaving_draft.Goals as goal
 
 pub returns-in_ok-gone-in-Drop-clause-made : goal.returns-in_ok-gone-in-Drop-clause-made
@@ -6,6 +6,3 @@ returns-in_ok-gone-in-Drop-clause-made c = rw c.in-Drop.is (drop-draft c.args.se
 
 pub returns-in_ok-group-in-Remove-clause-made : goal.returns-in_ok-group-in-Remove-clause-made
 returns-in_ok-group-in-Remove-clause-made c = rw c.in-Remove.is (remove-draft c.args.self.now c.in-Remove.group.now c.in_ok-group-in-Remove.group c.in_ok-group-in-Remove.ensures.is c.in_ok-group-in-Remove.ensures.held)
-
-pub returns-in_ok-view-in-Release-clause-made : goal.returns-in_ok-view-in-Release-clause-made
-returns-in_ok-view-in-Release-clause-made c = rw c.in-Release.is (release-draft c.args.self.now c.in-Release.view.now c.in-Release.word c.in_ok-view-in-Release.view c.in_ok-view-in-Release.ensures.held)

@@ -14,7 +14,7 @@ changes_for-requires c =
 
 pub returns-in-Err-Refused-clause-refused : goal.returns-in-Err-Refused-clause-refused
 returns-in-Err-Refused-clause-refused c =
-    let old = (session_at c.self.inside.scene c.self.inside.budget c.self.inside.limits) in
+    let old = (session_at c.self.inside.scene c.self.inside.budget c.self.inside.limits c.self.inside.version) in
     let named : IsNamed old c.args.name.now c.args.value c.in-Some.metrics = record {
       free = unfound (λ id. id.0) (λ v. v.id) c.find.result (view_named c.self.inside.scene.scene.tree.views c.args.name.now) (rw c.tree.ensures at c.find.ensures) c.if-is_some.ensures;
       short = c.if-name-gt-NAME_LIMIT.false;

@@ -13,7 +13,7 @@ use Rattle.session_undo.proofs.session.Session.new_suggestion.Goals as goal
 
 pub returns-clause-made : goal.returns-clause-made
 returns-clause-made c =
-    let old = (session_at c.self.inside.scene c.self.inside.budget c.self.inside.limits) in
+    let old = (session_at c.self.inside.scene c.self.inside.budget c.self.inside.limits c.self.inside.version) in
     let f = view-found (view_named old.scene.tree.views c.args.name.now) c.in-Some.view.0 (rw c.tree.ensures at c.in-Some.ensures) in
     rw (← c.self.view_is)
     (IfOk-weaker c.suggestion_for.result (λ (new : NewSuggestion). IsSuggestionFor old c.in-Some.view.0 c.args.word c.args.value (object_view c.args.priority) new) (λ (new : NewSuggestion). IsFreeSuggestion old c.args.name.now c.args.word c.args.value (object_view c.args.priority) new)
@@ -21,7 +21,7 @@ returns-clause-made c =
 
 pub returns-clause-refused : goal.returns-clause-refused
 returns-clause-refused c =
-    let old = (session_at c.self.inside.scene c.self.inside.budget c.self.inside.limits) in
+    let old = (session_at c.self.inside.scene c.self.inside.budget c.self.inside.limits c.self.inside.version) in
     let f = view-found (view_named old.scene.tree.views c.args.name.now) c.in-Some.view.0 (rw c.tree.ensures at c.in-Some.ensures) in
     rw (← c.self.view_is)
     (err-map (λ (reply : Reply). SuggestStep old c.in-Some.view.0 c.args.word c.args.value (object_view c.args.priority) reply old) (λ (reply : Reply). TriedSuggest old c.args.name.now c.args.word c.args.value (object_view c.args.priority) NoEnd reply old) c.suggestion_for.result

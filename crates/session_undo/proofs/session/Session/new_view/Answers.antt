@@ -13,7 +13,7 @@ views_with-requires-clause-live c = rw (← c.self.view_is) (found-live c.self.i
 
 pub returns-in_err-free_name-clause-refused : goal.returns-in_err-free_name-clause-refused
 returns-in_err-free_name-clause-refused c =
-    let old = (session_at c.self.inside.scene c.self.inside.budget c.self.inside.limits) in
+    let old = (session_at c.self.inside.scene c.self.inside.budget c.self.inside.limits c.self.inside.version) in
     let exit = err_from_is_err_and c.from_residual-in_err-free_name.result c.from_residual-in_err-free_name.ensures.1 in
     rw (exit.1, exit.2, ← c.self.view_is)
     (refuses (λ (reply : Reply). UnlessUnfree old c.args.name.now (λ r n. ⊥) reply old) (λ (reply : Reply). TriedView old c.args.name.now c.args.parent.now NoEnd reply old) c.in_err-free_name.field-0.0
@@ -21,7 +21,7 @@ returns-in_err-free_name-clause-refused c =
 
 pub returns-in_err-new-clause-refused : goal.returns-in_err-new-clause-refused
 returns-in_err-new-clause-refused c =
-    let old = (session_at c.self.inside.scene c.self.inside.budget c.self.inside.limits) in
+    let old = (session_at c.self.inside.scene c.self.inside.budget c.self.inside.limits c.self.inside.version) in
     let asked : IsAsked old c.args.name.now c.args.parent.now c.in-Some.above.0 = record {
       found = rw c.tree.ensures at c.in-Some.ensures;
       named = rw (← c.self.view_is) at c.in_ok-free_name.ensures.free;
@@ -34,7 +34,7 @@ returns-in_err-new-clause-refused c =
 
 pub returns-then-is_crowded-clause-refused : goal.returns-then-is_crowded-clause-refused
 returns-then-is_crowded-clause-refused c =
-    let old = (session_at c.self.inside.scene c.self.inside.budget c.self.inside.limits) in
+    let old = (session_at c.self.inside.scene c.self.inside.budget c.self.inside.limits c.self.inside.version) in
     let asked : IsAsked old c.args.name.now c.args.parent.now c.in-Some.above.0 = record {
       found = rw c.tree.ensures at c.in-Some.ensures;
       named = rw (← c.self.view_is) at c.in_ok-free_name.ensures.free;
@@ -45,7 +45,7 @@ returns-then-is_crowded-clause-refused c =
 
 pub returns-clause-made : goal.returns-clause-made
 returns-clause-made c =
-    let old = (session_at c.self.inside.scene c.self.inside.budget c.self.inside.limits) in
+    let old = (session_at c.self.inside.scene c.self.inside.budget c.self.inside.limits c.self.inside.version) in
     let asked : IsAsked old c.args.name.now c.args.parent.now c.in-Some.above.0 = record {
       found = rw c.tree.ensures at c.in-Some.ensures;
       named = rw (← c.self.view_is) at c.in_ok-free_name.ensures.free;

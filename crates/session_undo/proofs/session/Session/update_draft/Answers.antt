@@ -1,8 +1,7 @@
 use Rattle.std.proofs.lemmas.Result.{err_from_is_err_and}
 use Rattle.script_text.specs.View.{linear_view}
-use Rattle.span_text.specs.Objects.{object_view}
 use Rattle.vfl_text.specs.View.{meaning}
-use Rattle.session_undo.proofs.Commands.Drafts.{constraint-draft, format-draft, metric-draft, suggest-draft, window-draft}
+use Rattle.session_undo.proofs.Commands.Drafts.{constraint-draft, format-draft, metric-draft, window-draft}
 use Rattle.session_undo.proofs.session.Session.update_draft.Goals as goal
 
 pub returns-in_ok-new-in-Metric-clause-made : goal.returns-in_ok-new-in-Metric-clause-made
@@ -20,10 +19,6 @@ returns-in_ok-new-in-Constrain-clause-made c =
 pub returns-in_ok-new-in-Vfl-clause-made : goal.returns-in_ok-new-in-Vfl-clause-made
 returns-in_ok-new-in-Vfl-clause-made c =
     rw c.in-Vfl.is (format-draft c.args.self.now c.show_limits.ensures c.in-Vfl.group.now c.in-Vfl.align (meaning c.in-Vfl.format) c.in_ok-new-in-Vfl.new c.in_ok-new-in-Vfl.ensures.is c.in_ok-new-in-Vfl.ensures.made)
-
-pub returns-in_ok-new-in-Suggest-clause-made : goal.returns-in_ok-new-in-Suggest-clause-made
-returns-in_ok-new-in-Suggest-clause-made c =
-    rw c.in-Suggest.is (suggest-draft c.args.self.now c.show_limits.ensures c.in-Suggest.view.now c.in-Suggest.word c.in-Suggest.value (object_view c.in-Suggest.priority) c.in_ok-new-in-Suggest.new c.in_ok-new-in-Suggest.ensures.made)
 
 pub returns-in_err-new-in-Metric-clause-refused : goal.returns-in_err-new-in-Metric-clause-refused
 returns-in_err-new-in-Metric-clause-refused c =

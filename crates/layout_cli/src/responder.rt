@@ -1,0 +1,160 @@
+// A session that answers lines, the first of which may say the version.
+ghost use Rattle.std.specs.Prelude.{◌≡◌, ◌≤◌, ◌++◌, ℕ, List, not, true, false, length, IfOk, IfErr};
+ghost use Rattle.std.specs.Prelude.{IsErrOf, OnErr};
+ghost use Rattle.edge_io.specs.declared.feed.TheConstants.{LINE_LIMIT};
+ghost use Rattle.frac_core.specs.declared.memory.Stop.TheVariants.{OutOfMemory as NoMemory};
+ghost use Rattle.line_by_line.specs.Answers.{HasStopCause, sink_failed};
+ghost use Rattle.layout_cli.specs.Machine.{IsOpening, LeadsTo, Talks};
+ghost use Rattle.layout_cli.specs.Told.{IsReplied, IsRepliedInPart};
+ghost use Rattle.session_undo.specs.Replies.{accepted, MayRefuse};
+ghost use Rattle.session_undo.specs.State.{IsFirst, IsFirstOf};
+ghost use Rattle.script_text.specs.declared.words.Version.TheVariants as version;
+ghost use Rattle.session_undo.specs.declared.reply.Reply.TheVariants as good;
+ghost use Rattle.std.specs.declared.result.Result.TheVariants.{Ok as Accepted};
+
+use crate::answers::{put_reply, step};
+use edge_io::{LINE_LIMIT, Sink};
+use frac_core::OutOfMemory;
+use line_by_line::AnswerStop;
+use reply_texts::{OK_LENGTH, reply_text};
+use script_text::{Version, is_version_line};
+use session_undo::{Refusal, Reply, Session};
+use std::alloc::Global;
+use std::marker::Model;
+
+// Whether the line says that the script is of version 2.
+fn is_opening(line: &[u8]) -> bool
+    ensures yes { result ≡ true → IsOpening line.now }
+    ensures no { result ≡ false → IsOpening line.now → ⊥ }
+{
+    line.len() <= LINE_LIMIT && is_version_line(line)
+}
+
+// Whether nothing is said to a line.
+fn is_silent(reply: &Result<Reply, Refusal>) -> bool
+    ensures yes { result ≡ true → reply.now ≡ Accepted good.Silent }
+    ensures no { result ≡ false → reply.now ≡ Accepted good.Silent → ⊥ }
+{
+    matches!(reply, Ok(Reply::Silent))
+}
+
+/// A session that answers the lines of a script, one after the other. The first that isn't blank or a comment
+/// may say that the script is of version 2; else it is of version 1.
+#[derive(Drop)]
+pub struct Responder {
+    session: Session,
+    // Whether a line with a reply came.
+    begun: bool,
+    alloc: Global,
+}
+
+impl Model for Responder {
+    ghost use Rattle.layout_cli.specs.Machine.{Talking};
+
+    ghost Value = { Talking };
+
+    ghost view = { λ r. record { state = r.session; begun = r.begun } };
+}
+
+impl Responder {
+    /// No line came.
+    pub fn new(alloc: Global) -> Result<Responder, OutOfMemory>
+        ensures first { IfOk result (λ responder. IsFirst responder.state) }
+        ensures unbegun { IfOk result (λ responder. responder.begun ≡ false) }
+    {
+        Ok(Responder {
+            session: Session::new(alloc)?,
+            begun: false,
+            alloc,
+        })
+    }
+
+    /// The session that the lines led to.
+    pub(crate) fn session(&self) -> &Session
+        ensures { result.now ≡ self.now.state }
+    {
+        &self.session
+    }
+
+    // A new session of version 2 in place of the one that there is.
+    fn open(&mut self) -> Result<(), OutOfMemory>
+        ensures first { IfOk result (λ _. IsFirstOf version.Two self.new.state) }
+        ensures begun { self.new.begun ≡ self.old.begun }
+        ensures same { OnErr result (self.new ≡ self.old) }
+    {
+        self.session = Session::with_version(self.alloc, Version::Two)?;
+        Ok(())
+    }
+
+    // Does what a line says. Whether one with a reply came is kept when the reply is made (`begin`).
+    fn step(&mut self, line: &[u8]) -> Result<Reply, Refusal>
+        ensures accepted { IfOk result (λ reply. LeadsTo self.old line.now (accepted reply) self.new.state) }
+        ensures refused { IfErr result (MayRefuse (λ reply. LeadsTo self.old line.now reply self.old.state)) }
+        ensures begun { self.new.begun ≡ self.old.begun }
+        ensures same { OnErr result (self.new ≡ self.old) }
+    {
+        if !self.begun && is_opening(line) {
+            self.open()?;
+            return Ok(Reply::Done);
+        }
+        step(self.alloc, &mut self.session, line)
+    }
+
+    // Keeps in mind that a line with a reply came, if this is one.
+    fn begin(&mut self, reply: &Result<Reply, Refusal>)
+        ensures state { self.new.state ≡ self.old.state }
+        ensures silent { reply.now ≡ Accepted good.Silent → self.new ≡ self.old }
+        ensures told { (reply.now ≡ Accepted good.Silent → ⊥) → self.new.begun ≡ true }
+    {
+        if !is_silent(reply) {
+            self.begun = true;
+        }
+    }
+
+    /// Answers a line: appends the lines of its reply, and says whether that is a refusal. After want of
+    /// memory all is as before. The room for `ok` is there before a change is made.
+    pub fn answer(&mut self, line: &[u8], out: &mut Vec<u8>) -> Result<bool, OutOfMemory>
+        requires { length line.now ≤ LINE_LIMIT }
+        ensures told { IfOk result (λ refused. (text : List ℕ)
+            × Talks self.old line.now text (not refused) self.new
+            × (out.new.items ≡ out.old.items ++ text)) }
+        ensures same { OnErr result (self.new ≡ self.old) }
+        ensures unchanged { OnErr result (out.new.items ≡ out.old.items) }
+    {
+        out.reserve(OK_LENGTH)?;
+        let reply = self.step(line);
+        reply_text(&self.session, &reply, out)?;
+        self.begin(&reply);
+        Ok(reply.is_err())
+    }
+
+    /// Answers a line into a sink, and says whether the reply is no refusal. `text` is room for a reply.
+    /// Frames take no memory.
+    pub(crate) fn put_answer<K: Sink>(
+        &mut self,
+        line: &[u8],
+        text: &mut Vec<u8>,
+        sink: &mut K,
+    ) -> Result<bool, AnswerStop>
+        ensures told { IfOk result
+            (IsReplied self.old line.now self.new (K.held sink.old) (K.held sink.new)) }
+        ensures front { IsErrOf result sink_failed
+            → IsRepliedInPart self.old line.now (K.held sink.old) (K.held sink.new) }
+        ensures cause { HasStopCause K.faults sink.old sink.new result }
+        ensures same { IsErrOf result NoMemory → self.new ≡ self.old }
+    {
+        text.clear();
+        text.reserve(OK_LENGTH)?;
+        let reply = self.step(line);
+        put_reply(&self.session, &reply, text, sink)?;
+        self.begin(&reply);
+        Ok(reply.is_ok())
+    }
+
+    /// A line came that is too long, which gets a reply.
+    pub fn long(&mut self)
+        ensures { self.new ≡ record { state = self.old.state; begun = true } }
+    {
+        self.begun = true;
+    }
+}

@@ -1,0 +1,12 @@
+pub mod Sums
+pub mod RowTerms
+pub mod LineRows
+pub mod FormatRows
+pub mod HeldRows
+pub mod GoingViews
+pub mod Made
+pub mod Drafts
+pub mod OneDraft
+pub mod Posed
+pub mod Steps
+pub mod First

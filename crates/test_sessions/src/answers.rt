@@ -1,0 +1,85 @@
+// What a session answers to lines, as text.
+use crate::tested::push_reply;
+use cert_core::Path;
+use frac_core::OutOfMemory;
+use script_text::{Command, Version, is_version_line, read_line_in};
+use session_undo::{Refusal, Reply, Session, StopPlace};
+use std::alloc::Global;
+use test_runs::{Answer, Kind};
+use test_text::put_shown;
+
+// Appends where a line stopped, and how long its path is.
+fn push_path(stop: &mut String, place: &StopPlace, path: &Path) -> Result<(), OutOfMemory> {
+    put_shown(stop, place)?;
+    let (marks, swaps) = (path.corner().len(), path.swaps().len());
+    let is_dual = path.dual();
+    Ok(write!(
+        stop,
+        "path from {marks} marks by {swaps} exchanges, dual {is_dual}"
+    )?)
+}
+
+// The same of a reply, if it is a refusal with a path.
+fn push_stop(stop: &mut String, reply: &Result<Reply, Refusal>) -> Result<(), OutOfMemory> {
+    match reply {
+        Err(Refusal::Spent { place, path }) => push_path(stop, place, path),
+        Err(Refusal::Overflow { place, at }) => push_path(stop, place, &at.path),
+        _ => Ok(()),
+    }
+}
+
+fn kind_of(reply: &Result<Reply, Refusal>) -> Kind {
+    match reply {
+        Ok(Reply::Certificate(_)) => Kind::Certificate,
+        Err(Refusal::Conflict(_)) => Kind::Conflict,
+        _ => Kind::Other,
+    }
+}
+
+// The reply as an answer.
+fn answer_of(
+    alloc: Global,
+    session: &Session,
+    reply: &Result<Reply, Refusal>,
+) -> Result<Answer, OutOfMemory> {
+    let mut answer = Answer::new(alloc, kind_of(reply));
+    push_reply(&mut answer.text, session, reply)?;
+    push_stop(&mut answer.stop, reply)?;
+    Ok(answer)
+}
+
+// The reply alone: nothing here needs a clause of `apply`.
+fn reply_to(session: &mut Session, command: Command<'_>) -> Result<Reply, Refusal> {
+    session.apply(command)
+}
+
+fn answer_to(
+    alloc: Global,
+    session: &mut Session,
+    command: Command<'_>,
+) -> Result<Answer, OutOfMemory> {
+    let reply = reply_to(session, command);
+    answer_of(alloc, session, &reply)
+}
+
+// A new session of version 2 in place of the one that there is.
+fn open(alloc: Global, session: &mut Session) -> Result<Answer, OutOfMemory> {
+    *session = Session::with_version(alloc, Version::Two)?;
+    answer_of(alloc, session, &Ok(Reply::Done))
+}
+
+// What a line of the session's version is answered.
+fn answer_in(alloc: Global, session: &mut Session, line: &[u8]) -> Result<Answer, OutOfMemory> {
+    match read_line_in(alloc, line, session.version()) {
+        Ok(command) => answer_to(alloc, session, command),
+        Err(_) => Ok(Answer::new(alloc, Kind::Outside)),
+    }
+}
+
+/// What a line is answered. The line that says version 2 makes the session a new one of it.
+pub fn answer(alloc: Global, session: &mut Session, line: &str) -> Result<Answer, OutOfMemory> {
+    if is_version_line(line.as_bytes()) {
+        return open(alloc, session);
+    }
+    answer_in(alloc, session, line.as_bytes())
+}

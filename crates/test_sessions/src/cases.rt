@@ -1,0 +1,41 @@
+// The cases of the input and what each leads to.
+use crate::tested::Tested;
+use frac_core::OutOfMemory;
+use std::alloc::Global;
+use test_runs::{put_lines, put_paths};
+use test_text::{Cases, cases_text, push_escaped};
+
+// The headings, which stand here without their first `=`.
+struct Headings;
+
+// Appends what the text below a heading leads to: the paths of a script, or the lines of a session.
+fn put_text_below(
+    alloc: Global,
+    out: &mut String,
+    heading: &str,
+    text: &[u8],
+) -> Result<(), OutOfMemory> {
+    let mut session = Tested::new(alloc)?;
+    match heading.starts_with("paths ") {
+        true => put_paths(alloc, out, &mut session, text),
+        false => put_lines(alloc, out, &mut session, text),
+    }
+}
+
+impl Cases for Headings {
+    fn put_below(
+        alloc: Global,
+        out: &mut String,
+        heading: &str,
+        lines: &str,
+    ) -> Result<(), OutOfMemory> {
+        let mut text = Vec::new(alloc);
+        push_escaped(&mut text, lines)?;
+        put_text_below(alloc, out, heading, &text)
+    }
+}
+
+/// What the program prints.
+pub fn printed(alloc: Global, input: &str) -> Result<String, OutOfMemory> {
+    cases_text::<Headings>(alloc, input)
+}
