@@ -1,5 +1,6 @@
 // Trials: some required rows on an engine that holds nothing.
 ghost use Rattle.std.specs.Prelude.{◌≡◌, ◌<◌, ℕ, [], ◌∷◌, length, AllPairs, IfOk, IfErr, OnErr};
+ghost use Rattle.problem_core.specs.Kept.{AreRising};
 ghost use Rattle.problem_core.specs.Layout as layout;
 ghost use Rattle.layout_solver.specs.Layouts.{solution_of};
 ghost use Rattle.conflict_core.specs.Cores.{AreRequired, trial};
@@ -44,8 +45,9 @@ fn add_rows(alloc: Global, e: &mut Engine, t: &Trials, ids: &[u32]) -> Result<()
     e.add(t.attrs, &rows, t.budget)
 }
 
-// The values of an engine, by rising attribute.
+// The values of an engine whose stays come by rising attribute.
 fn values_of(alloc: Global, e: &Engine) -> Result<Values, OutOfMemory>
+    requires { AreRising e.now.values }
     ensures { IfOk result (λ values. values ≡ e.now.values) }
 {
     e.show_layout(); // for the proof: what an engine keeps
@@ -58,7 +60,8 @@ fn values_of(alloc: Global, e: &Engine) -> Result<Values, OutOfMemory>
 
 // The values of an engine, which goes back to the layout before.
 fn taken(alloc: Global, e: &mut Engine) -> Result<Values, OutOfMemory>
-    requires { 0 < length e.old.earlier }
+    requires marked { 0 < length e.old.earlier }
+    requires rising { AreRising e.old.values }
     ensures values { IfOk result (λ values. values ≡ e.old.values) }
     ensures back { e.old.earlier ≡ solution_of e.new ∷ e.new.earlier }
 {

@@ -97,13 +97,17 @@ size_never len = name_never mean.Nothing (λ n. Number (High n)) (λ n. number_n
 unsize_never : (len : ℕ) → Never mean.Nothing (Arguments len key.Unsize)
 unsize_never len = name_never mean.Nothing (λ n. End (mean.Unsize n)) (λ n. end_never (mean.Unsize n) refl)
 
+keep_never : (len : ℕ) → Never mean.Nothing (Arguments len key.Keep)
+keep_never len = name_never mean.Nothing (λ n. End (mean.Keep n)) (λ n. end_never (mean.Keep n) refl)
+
 -- no new command is blank
 new_never : (len : ℕ) → Never mean.Nothing (Words new_words (λ k. Apart (Arguments len k)))
 unfolding new_words
 new_never len s (inl (t, is, h)) = apart_never mean.Nothing (Arguments len key.Direction) (direction_never len) t h
 new_never len s (inr (inl (t, is, h))) = apart_never mean.Nothing (Arguments len key.Size) (size_never len) t h
 new_never len s (inr (inr (inl (t, is, h)))) = apart_never mean.Nothing (Arguments len key.Unsize) (unsize_never len) t h
-new_never len s (inr (inr (inr never))) = never
+new_never len s (inr (inr (inr (inl (t, is, h))))) = apart_never mean.Nothing (Arguments len key.Keep) (keep_never len) t h
+new_never len s (inr (inr (inr (inr never)))) = never
 
 -- a line of version 1 means the same in each version
 pub line_later : (v : Version) (line : List ℕ) (m : Meaning) → Line (words_of version.One) line m → Line (words_of v) line m

@@ -14,6 +14,7 @@ use Rattle.view_tree.specs.JsonTrees.{Branch, size}
 use Rattle.compile_parts.specs.Meaning.{MetricList}
 use Rattle.constraint_compile.specs.Compiled.{CompiledLine}
 use Rattle.layout_solver.specs.Begins.{IsReached}
+use Rattle.stay_orders.specs.Orders.{with_front}
 use Rattle.layout_solver.specs.Layouts.{AreBest, stays_at, zeros}
 use Rattle.script_text.specs.declared.words.AttrWord.{AttrWord}
 use Rattle.script_text.specs.declared.words.Direction.{Direction}
@@ -22,7 +23,7 @@ use Rattle.constraint_compile.specs.declared.suggestion.Suggestion.{Suggestion}
 use Rattle.held_items.specs.Items.{Item, OfWindow, OfView, Sized, OfLine, Suggested, Intrinsic, AreRows}
 use Rattle.held_items.specs.Items.{has_size, intrinsic_again, resized, suggested_again, view_items}
 use Rattle.held_items.specs.declared.item.intrinsic.IntrinsicSize.{IntrinsicSize}
-use Rattle.held_items.specs.Attributes.{attributes_from}
+use Rattle.held_items.specs.Attributes.{all_attributes, attributes_from, view_attributes}
 use Rattle.held_items.specs.declared.limits.TheConstants.{EARLIER}
 use Rattle.held_items.specs.declared.row_numbers.TheConstants.{FIRST_FREE_ROW, INTRINSIC_ROWS, SIZE_ROWS}
 use Rattle.held_items.specs.declared.row_numbers.TheConstants.{VIEW_ROWS}
@@ -31,8 +32,8 @@ use Rattle.view_tree.specs.JsonTrees as branches
 
 -- the views, the metrics in order of definition, what is held in order of acceptance, the number that the
 -- next row takes, the direction in which lines and suggestions that come are meant, the rows by rising
--- number, the stays, the values by their attributes' numbers, and the marks inside at the corner that is kept
--- for them
+-- number, the stays, stronger ones first, the values in the stays' order, and the marks inside at the corner
+-- that is kept for them
 pub record Scene : Type 0 where
   pub tree : ViewTree
   pub metrics : MetricList
@@ -135,6 +136,11 @@ with_window old width height = record old {
 abbrev pub with_direction : Scene → Direction → Scene
 with_direction old to = record old { direction = to; stays = moved old.stays old.values }
 
+-- with the stays of this view first
+abbrev pub with_kept : Scene → ℕ → Scene
+with_kept old view =
+    record old { stays = with_front (view_attributes view) (moved old.stays old.values) }
+
 -- with an item more, which has so many rows
 abbrev pub with_item : Scene → Item → ℕ → Scene
 with_item old item count = record old {
@@ -188,6 +194,10 @@ pub record Becomes (draft new : Scene) : Type 0 where
 -- the values are the best for the rows and stays
 abbrev pub IsBestScene : Scene → Type 0
 IsBestScene scene = AreBest (problem_of scene) scene.values
+
+-- the values by attribute number, whatever the order of the stays
+abbrev pub values_by_number : Scene → List (ℕ × Fraction)
+values_by_number scene = map (λ a. (a, value_of scene.values a)) (all_attributes scene.tree.views)
 
 -- ---- the first scene
 

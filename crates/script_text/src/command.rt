@@ -193,4 +193,8 @@ pub enum Command<'a> {
     Unsize {
         name: &'a str,
     },
+    /// A view that is to stay where it is before all others, where a row moves one of them.
+    Keep {
+        name: &'a str,
+    },
 }

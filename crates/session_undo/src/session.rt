@@ -24,7 +24,7 @@ use held_items::{
 use layout_solver::Engine;
 use name_tables::{LimitWord, Metrics, NAME_LIMIT, OwnedName};
 use problem_core::{NUMBER_LIMIT, Problem, Values};
-use scenes::{FIRST_BUDGET, NewLine, NewMetrics, Scene, Update, values_of};
+use scenes::{FIRST_BUDGET, NewLine, NewMetrics, Scene, Update};
 use script_text::{Align, AttrWord, Command, Linear, Version};
 use span_text::Object;
 use std::alloc::Global;
@@ -67,12 +67,12 @@ impl Session {
     ghost use Rattle.vfl_text.specs.View.{meaning};
     ghost use Rattle.view_tree.specs.JsonStops as json;
     ghost use Rattle.view_tree.specs.Views.{view_of};
-    ghost use Rattle.scenes.specs.Scene.{metrics_with};
+    ghost use Rattle.scenes.specs.Scene.{metrics_with, values_by_number};
     ghost use Rattle.constraint_compile.specs.Compiled.{AreSmallForms};
     ghost use Rattle.constraint_compile.specs.Stops.{IsCompiled};
     ghost use Rattle.format_compile.specs.FormatRows.{IsCompiledFormat};
     ghost use Rattle.held_items.specs.Attributes.{IsNextLine};
-    ghost use Rattle.scenes.specs.Drafts.{AreComing};
+    ghost use Rattle.scenes.specs.Drafts.{AreComing, IsViewNamed};
     ghost use Rattle.session_undo.specs.Adding.{AddStop, IsFreeLine, IsFreeMetric, IsFreeName, IsFreeSize};
     ghost use Rattle.session_undo.specs.Adding.{IsFreeSuggestion, IsFreeTree, IsFreeView, IsGoing};
     ghost use Rattle.session_undo.specs.Adding.{IsGroupFree, IsGroupLimit, IsHeldSuggestion, IsLineFree};
@@ -90,7 +90,7 @@ impl Session {
     ghost use Rattle.session_undo.specs.Machine.{TriedTree, TriedUndo, TriedView, TriedWindow};
     ghost use Rattle.session_undo.specs.Machine.{AreKnownPulls, IsRankless, Sizes, TriedSize, TriedUnsize};
     ghost use Rattle.session_undo.specs.Machine.{UnlessPullsRankless, UnlessRankless, UnlessUnknown};
-    ghost use Rattle.session_undo.specs.Machine.{intrinsic_at};
+    ghost use Rattle.session_undo.specs.Machine.{TriedKeep, intrinsic_at};
     ghost use Rattle.session_undo.specs.Adding.{AreRanks, IsFreeIntrinsic, IsHeldIntrinsic, IsIntrinsicFor};
     ghost use Rattle.session_undo.specs.Adding.{SizeStep};
     ghost use Rattle.scenes.specs.Steps.{IsProblemOf};
@@ -98,7 +98,8 @@ impl Session {
     ghost use Rattle.compile_parts.specs.Meaning.{IsRank, unknown_object};
     ghost use Rattle.constraint_compile.specs.Suggestions.{priority_or, suggested_priority};
     ghost use Rattle.span_text.specs.Objects.{Meant, object_view};
-    ghost use Rattle.session_undo.specs.Asking.{Any, EndsAs, Free, IsDraft, Left, MayTake, Plain, Turned};
+    ghost use Rattle.session_undo.specs.Asking.{Any, EndsAs, Free, IsDraft, Kept, Left, MayTake, Plain};
+    ghost use Rattle.session_undo.specs.Asking.{Turned};
     ghost use Rattle.session_undo.specs.Asking.{IsUnwish, IsWish, drafted};
     ghost use Rattle.session_undo.specs.Asking.{kind_for, kind_of};
     ghost use Rattle.held_items.specs.Leaving.{is_in_group};
@@ -746,6 +747,17 @@ impl Session {
         Ok(view)
     }
 
+    // The view of this name.
+    fn known(&self, name: &str) -> Result<ViewId, Refusal>
+        ensures named { IfOk result (λ id. IsViewNamed self.now.scene name.now id.0) }
+        ensures refused { Refusing (TriedKeep self.now name.now NoEnd) self.now result }
+    {
+        let Some(view) = self.scene.tree().find(name) else {
+            return Err(Refusal::Unknown(OwnedName::of(self.alloc, name.as_bytes())?));
+        };
+        Ok(view)
+    }
+
     // A certificate of the scene's values.
     fn certify(&self) -> Result<Reply, Refusal>
         ensures accepted { Accepting (Certifies self.now Keeps) self.now result }
@@ -974,6 +986,21 @@ impl Session {
         }
     }
 
+    // The draft of a command by which a view is kept.
+    fn keeping_draft(&self, command: &Command<'_>) -> Result<Option<Draft>, Refusal>
+        ensures made { IfOk result (λ o. IfSome o (IsDraft self.now (view command.now))) }
+        ensures none { IfOk result (λ o. IfNone o (kind_for (view command.now) ≡ Kept → ⊥)) }
+        ensures refused { Refusing (Tried self.now (view command.now) NoEnd NoOther) self.now result }
+    {
+        match command {
+            Command::Keep { name } => {
+                let view = self.known(name)?;
+                Ok(Some(Draft::Keep(view)))
+            }
+            _ => Ok(None),
+        }
+    }
+
     // What a command asks of the scene, if it asks for a step.
     fn draft(&self, command: &Command<'_>) -> Result<Option<Draft>, Refusal>
         ensures made { IfOk result (λ o. IfSome o (IsDraft self.now (view command.now))) }
@@ -987,6 +1014,9 @@ impl Session {
             return Ok(Some(draft));
         }
         if let Some(draft) = self.leaving_draft(command)? {
+            return Ok(Some(draft));
+        }
+        if let Some(draft) = self.keeping_draft(command)? {
             return Ok(Some(draft));
         }
         Ok(self.turning_draft(command))
@@ -1030,6 +1060,10 @@ impl Session {
                 self.scene.turn(to)?;
                 Ok(Reply::Done)
             }
+            Draft::Keep(view) => {
+                let end = self.scene.keep_view(view, self.budget);
+                answer_of(end)
+            }
         }
     }
 
@@ -1046,6 +1080,7 @@ impl Session {
             Draft::SuggestionOut(view, word) => self.scene.release_problem(view, word),
             Draft::IntrinsicOut(view) => self.scene.unsized_problem(view),
             Draft::Turn(_) => self.scene.turned_problem(),
+            Draft::Keep(view) => self.scene.kept_problem(view),
         }
     }
 
@@ -1130,9 +1165,9 @@ impl Session {
 
     /// The values of all attributes, by number.
     pub fn values(&self) -> Result<Values, OutOfMemory>
-        ensures { IfOk result (λ values. values ≡ self.now.scene.values) }
+        ensures { IfOk result (λ values. values ≡ values_by_number self.now.scene) }
     {
-        values_of(self.alloc, self.scene.engine())
+        self.scene.values()
     }
 
     /// The engine: the problem of the rows of all that is held, and its best values.

@@ -7,7 +7,7 @@ use Rattle.problem_core.specs.declared.parts.Rel.TheVariants.{Eq, Ge}
 use Rattle.problem_core.specs.declared.parts.Stay.{Stay}
 use Rattle.problem_core.specs.declared.parts.Term.{Term}
 use Rattle.problem_core.specs.Layout.{Row, Problem}
-use Rattle.problem_core.specs.Kept.{IsNumber, IsRow, IsWhole, AreRising}
+use Rattle.problem_core.specs.Kept.{IsNumber, IsRow, IsWhole}
 use Rattle.problem_core.specs.Window.{required_row, structural_rows, zero_fraction}
 use Rattle.view_tree.specs.Views.{LiveView, ViewTree}
 use Rattle.layout_solver.specs.declared.engine.Change.{Change}
@@ -17,7 +17,7 @@ use Rattle.problem_core.specs.Unfit.{without_constant}
 use Rattle.held_items.specs.Attributes.{view_attributes, all_attributes, HasOnly, IsCounted}
 use Rattle.held_items.proofs.Lists.{four-rising, all-unmapped}
 use Rattle.held_items.proofs.Views.Attributes.{view-new, none-new, contains-left, contains-top, contains-width, contains-height}
-use Rattle.scenes.proofs.Engines.Wholes.{IsSettled, added-rising, added-whole, settled-numbers, attributes-joined}
+use Rattle.scenes.proofs.Engines.Wholes.{IsSettled, added-whole, settled-numbers, attributes-joined}
 use Rattle.held_items.proofs.HeldRows.NextRows.{shape}
 use Rattle.held_items.specs.Attributes.{MayBeAdded}
 use Rattle.held_items.proofs.Constants.AlikeRows.{alike-shapes}
@@ -39,12 +39,6 @@ rows-whole views next l more is counted may room =
     (none-new (2 ^ 31 + 1)) counted.below
     (subst (λ (ns : List ℕ). MayBeAdded ns next more) (sym (append-nil (map (λ s. s.attr) l.problem.stays) ∙ counted.stays)) may)
     (omega (arith, room)) (omega (arith, is.whole.stay_count))
-
--- ---- attributes that rise
-
--- there is none more
-pub still-rising : (l : Layout) → AreRising l.values → AreRising (l.values ++ zeros [])
-still-rising l rising = subst AreRising (sym (append-nil l.values)) rising
 
 -- ---- counts
 
@@ -100,7 +94,7 @@ empty-settled = record {
   };
   attributes = refl;
   kept = λ k d within. absurd (omega (arith, within));
-  rising = pairs-nil (λ (u v : ℕ × Fraction). u.0 < v.0);
+  apart = pairs-nil (λ (u v : ℕ × Fraction). u.0 ≢ v.0);
 }
 
 pub first-whole : (l : Layout) (more : List Row) → l ≡ empty → more ≡ structural_rows → All IsRow more → IsWhole (with_added l (1 ∷ 2 ∷ 3 ∷ 4 ∷ []) more)
@@ -114,13 +108,9 @@ pub first-counted : (t : ViewTree) (p : Problem) → t ≡ first_tree → p ≡ 
 first-counted t p tree is =
     subst (λ (u : ViewTree). IsCounted u.views 5 p) (sym tree)
     (subst (IsCounted first_tree.views 5) (sym is) (record {
-      stays = refl;
+      -- the window's four in their order
+      stays = IsPermutation-refl (view_attributes 0);
       below = All-from_recursion (λ (r : Row). r.id < 5) structural_rows (lit< tt, (lit< tt, (lit< tt, (lit< tt, tt))));
       ranks = All-from_recursion HasRank structural_rows (lit< tt, (lit< tt, (lit< tt, (lit< tt, tt))));
       few = omega arith;
     }))
-
-pub first-rising : (l : Layout) → l ≡ empty → AreRising (l.values ++ zeros (1 ∷ 2 ∷ 3 ∷ 4 ∷ []))
-first-rising l is =
-    subst (λ (k : Layout). AreRising (k.values ++ zeros (1 ∷ 2 ∷ 3 ∷ 4 ∷ []))) (sym is)
-    (added-rising empty.values (view_attributes 0) 1 empty-settled.rising (λ k d within. absurd (omega (arith, within))) (view-new 0 (lit< tt)))

@@ -90,7 +90,7 @@ module _ (tree : ViewTree) (ms : MetricList) (held : List Item) (setting : Setti
   is = settled l sound
 
   moves : moved l.problem.stays l.values ≡ stays_at l.values
-  moves = moved-is l.problem.stays l.values is.attributes is.rising
+  moves = moved-is l.problem.stays l.values is.attributes is.apart
 
   pub stands : stood l ≡ stood_of (scene_at tree ms held setting l)
   stands = ap (made_problem l.problem.rows) (sym moves)
@@ -202,7 +202,7 @@ module _ (tree : ViewTree) (ms : MetricList) (held : List Item) (setting : Setti
   is-settled = settled l sound
 
   moves-to : moved l.problem.stays l.values ≡ stays_at l.values
-  moves-to = moved-is l.problem.stays l.values is-settled.attributes is-settled.rising
+  moves-to = moved-is l.problem.stays l.values is-settled.attributes is-settled.apart
 
   window : is_among gone 0 ≡ false
   window = window-stays tree.views root gone going below whole.root

@@ -12,7 +12,7 @@ use Rattle.held_items.specs.Items.{rows_of_views}
 use Rattle.held_items.specs.Attributes.{all_attributes, attributes_from, IsGrown, IsCounted}
 use Rattle.held_items.proofs.Lists.{all-unmapped}
 use Rattle.held_items.proofs.Views.Attributes.{attributes-below, attribute-count, grown-attributes}
-use Rattle.scenes.proofs.Engines.Wholes.{IsSettled, added-rising, added-whole}
+use Rattle.scenes.proofs.Engines.Wholes.{IsSettled, added-whole}
 use Rattle.held_items.specs.Attributes.{MayBeAdded}
 use Rattle.scenes.proofs.Engines.Additions.{counted-added}
 use Rattle.held_items.proofs.HeldRows.Ranks.{HasRank, views-ranked}
@@ -33,10 +33,6 @@ module _ (views new_views : List LiveView) (next id n : ℕ) (l : Layout) (is : 
       added-whole l.problem l.values (attributes_from id n) more next (4 * id + 1) is taken (come-new id n grown.small) counted.below
       (subst (λ (ns : List ℕ). MayBeAdded (ns ++ attributes_from id n) next more) (sym counted.stays) (views-may views next id n more are each))
       (omega (arith, room, many)) (omega (arith, stays, all, attribute-count new_views, grown.few))
-
-  -- the attributes of new views are above all others
-  pub views-rising : AreRising (l.values ++ zeros (attributes_from id n))
-  views-rising = added-rising l.values (attributes_from id n) (4 * id + 1) is.rising taken (come-new id n grown.small)
 
   pub counted-views : (more : List Row) (p : Problem) → more ≡ rows_of_views next id n → length l.problem.rows + 2 * n ≤ 2000 → p ≡ with_added l (attributes_from id n) more → IsCounted new_views (next + 2 * n) p
   counted-views more p are room done =

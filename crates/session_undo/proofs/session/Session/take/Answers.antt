@@ -2,7 +2,7 @@ use Rattle.scenes.specs.Drafts.{coming_draft, updated}
 use Rattle.scenes.specs.Leaving.{without_group, without_intrinsic, without_suggestion, without_views}
 use Rattle.session_undo.specs.Kept.{session_at}
 use Rattle.session_undo.proofs.Commands.LeavingSteps.{left-accepted, left-refused}
-use Rattle.scenes.specs.Scene.{with_direction}
+use Rattle.scenes.specs.Scene.{with_direction, with_kept}
 use Rattle.session_undo.proofs.Commands.Steps.{free-accepted, free-refused, run-accepted, run-refused, stands}
 use Rattle.session_undo.proofs.session.Session.take.Goals as goal
 
@@ -60,3 +60,13 @@ pub returns-in_ok-turn-in-Turn-clause-accepted : goal.returns-in_ok-turn-in-Turn
 returns-in_ok-turn-in-Turn-clause-accepted c =
     let old = (session_at c.self.inside.scene c.self.inside.budget c.self.inside.limits c.self.inside.version) in
     rw (c.in-Turn.is, ← c.self.view_is) (stands (with_direction old.scene c.in-Turn.to) old c.turn.new.self c.in_ok-turn-in-Turn.ensures.turned c.in_ok-turn-in-Turn.ensures.rows c.in_ok-turn-in-Turn.ensures.best c.in_ok-turn-in-Turn.ensures.earlier)
+
+pub returns-in-Keep-clause-accepted : goal.returns-in-Keep-clause-accepted
+returns-in-Keep-clause-accepted c =
+    let old = (session_at c.self.inside.scene c.self.inside.budget c.self.inside.limits c.self.inside.version) in
+    rw (c.in-Keep.is, c.answer_of-in-Keep.ensures, ← c.self.view_is) (free-accepted (with_kept old.scene c.in-Keep.view.0) old c.keep_view-end.new.self c.keep_view-end.result c.keep_view-end.ensures.solved c.keep_view-end.ensures.earlier)
+
+pub returns-in-Keep-clause-refused : goal.returns-in-Keep-clause-refused
+returns-in-Keep-clause-refused c =
+    let old = (session_at c.self.inside.scene c.self.inside.budget c.self.inside.limits c.self.inside.version) in
+    rw (c.in-Keep.is, c.answer_of-in-Keep.ensures, ← c.self.view_is) (free-refused (with_kept old.scene c.in-Keep.view.0) old c.keep_view-end.new.self c.keep_view-end.result c.keep_view-end.ensures.stop c.keep_view-end.ensures.free)
