@@ -10,3 +10,4 @@ pub mod OneDraft
 pub mod Posed
 pub mod Steps
 pub mod First
+pub mod Questions

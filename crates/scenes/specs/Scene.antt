@@ -1,6 +1,6 @@
 -- The scene: what a script has said so far, the rows that this stands for, and the values that it has led to.
 use Rattle.std.specs.Prelude.{◌≡◌, ℕ, ◌+◌, ◌*◌, Bool, true, false, List, [], ◌∷◌, ◌++◌, length, cond, take}
-use Rattle.std.specs.Prelude.{is_some, map}
+use Rattle.std.specs.Prelude.{is_some, map, AllPairs, ◌<◌}
 use Rattle.frac_core.specs.Fraction.{Fraction}
 use Rattle.name_tables.specs.Names.{names_of, place_of, with_value}
 use Rattle.problem_core.specs.declared.parts.Mark.{Mark}
@@ -66,6 +66,10 @@ problem_of scene = record { rows = scene.rows; stays = scene.stays }
 -- stays of the same attributes, at their values
 abbrev pub moved : List Stay → List (ℕ × Fraction) → List Stay
 moved stays values = map (λ s. record { attr = s.attr; target = value_of values s.attr }) stays
+
+-- the attributes of these stays rise
+abbrev pub AreRisingStays : List Stay → Type 0
+AreRisingStays stays = AllPairs (λ s t. s.attr < t.attr) stays
 
 -- the four attributes of a view, at 0
 abbrev pub new_values : ℕ → List (ℕ × Fraction)

@@ -6,3 +6,5 @@ pub mod Machine
 pub mod Probed
 pub mod Replies
 pub mod State
+pub mod Explained
+pub mod Explaining

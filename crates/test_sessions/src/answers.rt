@@ -2,7 +2,7 @@
 use crate::tested::push_reply;
 use cert_core::Path;
 use frac_core::OutOfMemory;
-use script_text::{Command, Version, is_version_line, read_line_in};
+use script_text::{Reading, Version, is_version_line, read_line_in};
 use session_undo::{Refusal, Reply, Session, StopPlace};
 use std::alloc::Global;
 use test_runs::{Answer, Kind};
@@ -49,16 +49,16 @@ fn answer_of(
 }
 
 // The reply alone: nothing here needs a clause of `apply`.
-fn reply_to(session: &mut Session, command: Command<'_>) -> Result<Reply, Refusal> {
-    session.apply(command)
+fn reply_to(session: &mut Session, reading: Reading<'_>) -> Result<Reply, Refusal> {
+    session.apply(reading)
 }
 
 fn answer_to(
     alloc: Global,
     session: &mut Session,
-    command: Command<'_>,
+    reading: Reading<'_>,
 ) -> Result<Answer, OutOfMemory> {
-    let reply = reply_to(session, command);
+    let reply = reply_to(session, reading);
     answer_of(alloc, session, &reply)
 }
 
@@ -71,7 +71,7 @@ fn open(alloc: Global, session: &mut Session) -> Result<Answer, OutOfMemory> {
 // What a line of the session's version is answered.
 fn answer_in(alloc: Global, session: &mut Session, line: &[u8]) -> Result<Answer, OutOfMemory> {
     match read_line_in(alloc, line, session.version()) {
-        Ok(command) => answer_to(alloc, session, command),
+        Ok(reading) => answer_to(alloc, session, reading),
         Err(_) => Ok(Answer::new(alloc, Kind::Outside)),
     }
 }
