@@ -13,7 +13,7 @@ use Rattle.session_undo.specs.declared.reply.Refusal.{Refusal}
 use Rattle.session_undo.specs.declared.reply.Refusal.TheVariants as refusal
 use Rattle.session_undo.specs.declared.reply.Reply as answer
 use Rattle.session_undo.specs.declared.reply.Reply.TheVariants as good
-use Rattle.session_undo.specs.State.{IsFirstOf, State}
+use Rattle.session_undo.specs.State.{IsFirstWith, State}
 use Rattle.session_undo.specs.Machine.{MeaningStep}
 use Rattle.session_undo.specs.Replies.{Reply, MayRefuse, IsTold, Tells, accepted, is_accepted, Nothing, Done, Frames, Rows, Certificate, Diagnosed, Outside, Unknown, Taken, Limit, Kind, Conflict, NoEarlier, Overflow, Spent, NoTarget, place_of}
 use Rattle.diagnosis.specs.Diagnoses.{findings_of}
@@ -149,7 +149,7 @@ begins : (old mid last : Talking) (line : List ℕ) (reply : Reply) → old.begu
     → Begins old.state line (text_of mid.state.scene reply) (is_accepted reply) last
 begins old mid last line reply unbegun same (inl (opens, done, first)) (inl (none, as_mid)) is = absurd (true≢false (sym (ap is_nothing none) ∙ ap is_nothing done))
 begins old mid last line reply unbegun same (inl (opens, done, first)) (inr (some, now)) is =
-    inr (inl (opens.1, ap (text_of mid.state.scene) done, ap is_accepted done, subst (IsFirstOf version.Two) (sym is) first, now))
+    inr (inl (opens.1, ap (text_of mid.state.scene) done, ap is_accepted done, subst (IsFirstWith old.state.limits version.Two) (sym is) first, now))
 begins old mid last line reply unbegun same (inr (other, step)) (inl (none, as_mid)) is =
     let silent = silent_line old.state line reply mid.state step none in
     inl (silent.0, ap (text_of mid.state.scene) none, ap is_accepted none, as_mid ∙ known mid old.state false silent.1 (same ∙ unbegun))

@@ -21,7 +21,6 @@ use Rattle.format_compile.specs.FormatRows.{IsCompiledFormat, MayStopFormat}
 use Rattle.compile_parts.specs.declared.stops.CompileStop.{CompileStop}
 use Rattle.scenes.specs.Scene.{Scene, IsBestScene, with_earlier, with_metric}
 use Rattle.session_undo.specs.State.{State, IsBestState}
-use Rattle.held_items.specs.declared.limits.TheConstants.{EARLIER}
 use Rattle.session_undo.specs.Replies.{Reply, Nothing, Done, Frames, Rows, Certificate, Diagnosed, Outside, Unknown, Taken, Limit, Kind, Conflict, NoEarlier, Overflow, Spent, NoTarget, Place, Step as OfStep, Probe}
 use Rattle.layout_solver.specs.declared.removing.RemoveStop.{RemoveStop}
 use Rattle.layout_solver.specs.declared.removing.RemoveStop.TheVariants as removal
@@ -32,8 +31,8 @@ kept : (old new : State) → IsBestState old → new ≡ old → IsBestState new
 kept old new best is = subst IsBestState (sym is) best
 
 -- the scene before is a best one among the earlier
-best-kept : (old : State) → IsBestState old → All IsBestScene (with_earlier old.scene old.earlier)
-best-kept old best = All-take IsBestScene EARLIER (old.scene ∷ old.earlier) (All-cons IsBestScene old.scene old.earlier best.0 best.1)
+best-kept : (old : State) → IsBestState old → All IsBestScene (with_earlier old.limits.undo old.scene old.earlier)
+best-kept old best = All-take IsBestScene old.limits.undo (old.scene ∷ old.earlier) (All-cons IsBestScene old.scene old.earlier best.0 best.1)
 
 -- there is no reply
 abbrev pub is_nothing : Reply → Bool

@@ -4,4 +4,6 @@ pub mod Told
 pub mod Made
 pub mod Answered
 pub mod Lines
+pub mod Hosts
+pub mod Behind
 pub mod Stops

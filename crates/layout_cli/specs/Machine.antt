@@ -10,7 +10,7 @@ use Rattle.script_text.specs.Meaning.{Meaning}
 use Rattle.script_text.specs.Meaning as mean
 use Rattle.script_text.specs.declared.words.Version.{Version}
 use Rattle.script_text.specs.declared.words.Version.TheVariants as version
-use Rattle.session_undo.specs.State.{State, IsFirstOf}
+use Rattle.session_undo.specs.State.{State, IsFirstOf, IsFirstWith}
 use Rattle.session_undo.specs.Replies.{Done, Reply, Outside, Limit, is_accepted}
 use Rattle.session_undo.specs.Machine.{Unless, Keeps, MeaningStep}
 use Rattle.reply_texts.specs.Replies.{line_of, text_of}
@@ -81,10 +81,11 @@ pub record Talking : Type 0 where
 abbrev pub Opens : Talking → List ℕ → Type 0
 Opens old line = (old.begun ≡ false) × IsOpening line
 
--- What a line leads to: a new session of version 2 where it opens one, and a step otherwise. Whether a line
+-- What a line leads to: a new session of version 2 with the same limits where it opens one, and a step otherwise. Whether a line
 -- with a reply came isn't said yet.
 abbrev pub LeadsTo : Talking → List ℕ → Reply → State → Type 0
-LeadsTo old line reply new = (Opens old line × (reply ≡ Done) × IsFirstOf version.Two new)
+LeadsTo old line reply new =
+    (Opens old line × (reply ≡ Done) × IsFirstWith old.state.limits version.Two new)
     ⊎ ((Opens old line → ⊥) × Step old.state line reply new)
 
 -- where no line with a reply came before: this one gets none either, or it says the version, or gets the
@@ -92,8 +93,8 @@ LeadsTo old line reply new = (Opens old line × (reply ≡ Done) × IsFirstOf ve
 abbrev pub Begins : State → List ℕ → List ℕ → Bool → Talking → Type 0
 Begins old line text good new =
     (IsSilent line × (text ≡ []) × (good ≡ true) × (new ≡ record { state = old; begun = false }))
-    ⊎ (IsOpening line × (text ≡ version_reply) × (good ≡ true) × IsFirstOf version.Two new.state
-    × (new.begun ≡ true))
+    ⊎ (IsOpening line × (text ≡ version_reply) × (good ≡ true)
+    × IsFirstWith old.limits version.Two new.state × (new.begun ≡ true))
     ⊎ ((IsSilent line → ⊥) × (IsOpening line → ⊥) × Answers old line text good new.state
     × (new.begun ≡ true))
 

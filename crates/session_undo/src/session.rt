@@ -52,13 +52,13 @@ pub struct Session {
 
 impl Model for Session {
     ghost use Rattle.session_undo.specs.State.{State};
-    ghost use Rattle.session_undo.specs.Kept.{AreWithin, limits_of, session_at};
+    ghost use Rattle.session_undo.specs.Kept.{AreLimitsOf, AreWithin, limits_of, session_at};
 
     ghost Value = { State };
 
     ghost view = { λ s. session_at s.scene s.budget s.limits s.version };
 
-    ghost invariant = { λ s. AreWithin (limits_of s.limits) };
+    ghost invariant = { λ s. AreWithin (limits_of s.limits) × AreLimitsOf s.scene (limits_of s.limits) };
 }
 
 impl Session {
@@ -79,8 +79,8 @@ impl Session {
     ghost use Rattle.session_undo.specs.Adding.{IsLineLimit, IsSuggestionFor, IsSuggestionOf, NoEnd, NoOther};
     ghost use Rattle.session_undo.specs.Adding.{IsViewMore, StopStep, SuggestStep, UnlessUnfree, ViewStep};
     ghost use Rattle.scenes.specs.Frames.{IsFrameOf};
-    ghost use Rattle.session_undo.specs.Kept.{AreWithin};
-    ghost use Rattle.session_undo.specs.State.{IsFirst, IsFirstOf};
+    ghost use Rattle.session_undo.specs.Kept.{AreWithin, limits_of};
+    ghost use Rattle.session_undo.specs.State.{IsFirst, IsFirstOf, IsFirstWith};
     ghost use Rattle.session_undo.specs.Replies.{Accepting, Done, Limit, MayRefuse, Refusing};
     ghost use Rattle.held_items.specs.Items.{has_size};
     ghost use Rattle.session_undo.specs.Machine.{AreTooMany, Certifies, Diagnoses, IsCrowded, IsTaken, Keeps};
@@ -116,13 +116,29 @@ impl Session {
     pub fn with_version(alloc: Global, version: Version) -> Result<Session, OutOfMemory>
         ensures { IfOk result (IsFirstOf version) }
     {
+        Session::with(alloc, version, FIRST_LIMITS)
+    }
+
+    /// The same with other limits.
+    pub fn with(alloc: Global, version: Version, limits: Limits) -> Result<Session, OutOfMemory>
+        requires { AreWithin (limits_of limits) }
+        ensures { IfOk result (IsFirstWith (limits_of limits) version) }
+    {
         Ok(Session {
-            scene: Scene::new(alloc)?,
+            scene: Scene::with(alloc, limits.views as u32, limits.undo)?,
             budget: FIRST_BUDGET,
-            limits: FIRST_LIMITS,
+            limits,
             version,
             alloc,
         })
+    }
+
+    /// How much may be held.
+    pub fn limits(&self) -> Limits
+        ensures value { limits_of result ≡ self.now.limits }
+        ensures within { AreWithin (limits_of result) }
+    {
+        self.limits
     }
 
     /// The version of the script, by whose grammar lines are to be read.

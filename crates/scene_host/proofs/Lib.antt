@@ -1,0 +1,4 @@
+pub mod NamedLines
+pub mod SceneLemmas
+pub mod MarkedTexts
+pub mod Told
