@@ -1,4 +1,5 @@
 -- What a line led to, and what was put of its reply.
+use Rattle.sweep_run.specs.Told.{stretches_of}
 use Rattle.std.proofs.Common.{◌≡◌, ◌∙◌, ◌⊎◌, ◌<◌, Bool, true, false, is_err, is_ok, List, [], ℕ, length, refl, sym, ap, ap₂, subst, inl, inr, arith, true≢false}
 use Rattle.std.specs.Prelude.{IfOk, IfErr, OnErr, not}
 use Rattle.std.specs.declared.result.Result.{Result}
@@ -15,7 +16,7 @@ use Rattle.session_undo.specs.declared.reply.Reply as answer
 use Rattle.session_undo.specs.declared.reply.Reply.TheVariants as good
 use Rattle.session_undo.specs.State.{IsFirstOf, State}
 use Rattle.session_undo.specs.Machine.{MeaningStep}
-use Rattle.session_undo.specs.Replies.{Reply, MayRefuse, IsTold, Tells, accepted, is_accepted, Nothing, Done, Frames, Rows, Certificate, Diagnosed, Outside, Unknown, Taken, Limit, Kind, Conflict, NoEarlier, Overflow, Spent, NoTarget, place_of}
+use Rattle.session_undo.specs.Replies.{Reply, MayRefuse, IsTold, Tells, accepted, is_accepted, Nothing, Done, Frames, Rows, Certificate, Diagnosed, Outside, Unknown, Taken, Limit, Kind, Conflict, NoEarlier, Overflow, Spent, NoTarget, place_of, Swept, SweepOverflow}
 use Rattle.diagnosis.specs.Diagnoses.{findings_of}
 use Rattle.reply_texts.specs.Replies.{text_of}
 use Rattle.layout_cli.specs.Machine.{Answers, Begins, GoesOn, IsSilent, LeadsTo, Opens, Step, Talking, Talks, TalksAfter}
@@ -75,6 +76,7 @@ heard good.Frames mid last hears = some_heard (Ok good.Frames) Frames mid last r
 heard good.Rows mid last hears = some_heard (Ok good.Rows) Rows mid last refl refl hears
 heard (good.Certificate levels) mid last hears = some_heard (Ok (good.Certificate levels)) (Certificate levels) mid last refl refl hears
 heard (good.Diagnosed d) mid last hears = some_heard (Ok (good.Diagnosed d)) (Diagnosed (findings_of d)) mid last refl refl hears
+heard (good.Swept s) mid last hears = some_heard (Ok (good.Swept s)) (Swept (stretches_of s.0.items)) mid last refl refl hears
 
 -- the talking that comes of what a line led to
 abbrev pub kept_in_mind : Result answer.Reply Refusal → Talking → Talking
@@ -88,6 +90,7 @@ mind_hears (Ok good.Frames) mid = record { state = refl; silent = λ is. absurd 
 mind_hears (Ok good.Rows) mid = record { state = refl; silent = λ is. absurd (true≢false (sym (ap is_silent is))); told = λ loud. refl }
 mind_hears (Ok (good.Certificate levels)) mid = record { state = refl; silent = λ is. absurd (true≢false (sym (ap is_silent is))); told = λ loud. refl }
 mind_hears (Ok (good.Diagnosed d)) mid = record { state = refl; silent = λ is. absurd (true≢false (sym (ap is_silent is))); told = λ loud. refl }
+mind_hears (Ok (good.Swept s)) mid = record { state = refl; silent = λ is. absurd (true≢false (sym (ap is_silent is))); told = λ loud. refl }
 mind_hears (Err stop) mid = record { state = refl; silent = λ is. absurd (true≢false (sym (ap is_silent is))); told = λ loud. refl }
 
 -- ---- the reply that is told
@@ -99,6 +102,7 @@ is_good good.Frames = refl
 is_good good.Rows = refl
 is_good (good.Certificate levels) = refl
 is_good (good.Diagnosed d) = refl
+is_good (good.Swept s) = refl
 
 -- the refusal that is told is one that P allows
 told_as : (P F : Reply → Type 0) (r : Refusal) → MayRefuse P r → IsTold F r → (reply : Reply) × P reply × F reply × (false ≡ is_accepted reply) × (is_nothing reply ≡ false)
@@ -112,6 +116,7 @@ told_as P F refusal.NoEarlier may is = (NoEarlier, may, is, refl, refl)
 told_as P F (refusal.Overflow place at) may is = (Overflow (place_of place) at.path at.quantity, may, is, refl, refl)
 told_as P F (refusal.Spent place path) may is = (Spent (place_of place) path, may, is, refl, refl)
 told_as P F (refusal.NoTarget attr up) may is = (NoTarget attr up, may, is, refl, refl)
+told_as P F (refusal.SweepOverflow width path what) may is = (SweepOverflow width path what, may, is, refl, refl)
 told_as P F refusal.OutOfMemory may is = absurd is
 
 -- what a line led to is told by a reply of which F holds, and is kept in mind

@@ -22,10 +22,10 @@ use Rattle.compile_parts.specs.declared.stops.CompileStop.{CompileStop}
 use Rattle.scenes.specs.Scene.{Scene, IsBestScene, with_earlier, with_metric}
 use Rattle.session_undo.specs.State.{State, IsBestState}
 use Rattle.held_items.specs.declared.limits.TheConstants.{EARLIER}
-use Rattle.session_undo.specs.Replies.{Reply, Nothing, Done, Frames, Rows, Certificate, Diagnosed, Outside, Unknown, Taken, Limit, Kind, Conflict, NoEarlier, Overflow, Spent, NoTarget, Place, Step as OfStep, Probe}
+use Rattle.session_undo.specs.Replies.{Reply, Nothing, Done, Frames, Rows, Certificate, Diagnosed, Outside, Unknown, Taken, Limit, Kind, Conflict, NoEarlier, Overflow, Spent, NoTarget, Place, Step as OfStep, Probe, Swept, SweepOverflow, Sweep}
 use Rattle.layout_solver.specs.declared.removing.RemoveStop.{RemoveStop}
 use Rattle.layout_solver.specs.declared.removing.RemoveStop.TheVariants as removal
-use Rattle.session_undo.specs.Machine.{Diagnoses, Accepts, LeavesFree, Sizes, Solves, SolvesFree, Stands, Suggests, TellsStill, TriedConstraint, TriedDrop, TriedFormat, TriedRelease, TriedRemove, TriedSize, TriedSuggest, TriedUnsize, MeaningStep, TriedView, TriedTree, TriedMetric, TriedWindow, TriedLine, TriedBudget, TriedUndo, UnlessFar, Keeps, parent_name, still_place}
+use Rattle.session_undo.specs.Machine.{Diagnoses, Accepts, LeavesFree, Sizes, Solves, SolvesFree, Stands, Suggests, TellsStill, TriedConstraint, TriedDrop, TriedFormat, TriedRelease, TriedRemove, TriedSize, TriedSuggest, TriedUnsize, MeaningStep, TriedView, TriedTree, TriedMetric, TriedWindow, TriedLine, TriedBudget, TriedUndo, UnlessFar, Keeps, parent_name, still_place, Sweeps, TriedSweep}
 use Rattle.layout_cli.specs.Machine.{GrammarStep, Step, Run}
 
 kept : (old new : State) → IsBestState old → new ≡ old → IsBestState new
@@ -174,6 +174,15 @@ module _ (old : State) (reply : Reply) (new : State) where
   diagnose-change (inr (inr (inl stop))) = told (Spent (Probe stop.attr stop.up) stop.path) refl stop.refused.0 stop.refused.1
   diagnose-change (inr (inr (inr stop))) = told (NoTarget stop.attr stop.up) refl stop.refused.0 stop.refused.1
 
+  -- nor does a sweep
+  swept-change : {from to : Fraction} → Sweeps old from to reply new → MaySay old reply new
+  swept-change (inl sweep) = told (Swept sweep.stretches) refl sweep.told.0 sweep.told.1
+  swept-change (inr (inl stop)) = told (SweepOverflow stop.width stop.path stop.what) refl stop.refused.0 stop.refused.1
+  swept-change (inr (inr stop)) = told (Spent (Sweep stop.width) stop.path) refl stop.refused.0 stop.refused.1
+
+  sweep-change : (from to : Fraction) → TriedSweep old from to (Sweeps old from to) reply new → MaySay old reply new
+  sweep-change from to = past (Kind kind.Sweep) refl (past (Limit word.Constant) refl swept-change)
+
   -- what isn't blank gets some reply
   pub meaning-says : (m : Meaning) → is_blank m ≡ false → MeaningStep old m reply new → MaySay old reply new
   meaning-says mean.Nothing some step = absurd (true≢false some)
@@ -199,6 +208,7 @@ module _ (old : State) (reply : Reply) (new : State) where
   meaning-says (mean.Turn to) some step = stands-change _ step
   meaning-says (mean.Size name width height hug resist) some step = size-change name width height hug resist step
   meaning-says (mean.Unsize name) some step = unsize-change name step
+  meaning-says (mean.Sweep from to) some step = sweep-change from to step
 
 -- ---- lines
 
@@ -224,6 +234,7 @@ blank_or mean.Diagnose = inr refl
 blank_or (mean.Turn to) = inr refl
 blank_or (mean.Size name width height hug resist) = inr refl
 blank_or (mean.Unsize name) = inr refl
+blank_or (mean.Sweep from to) = inr refl
 
 -- what says something may change something
 said-change : (old : State) (reply : Reply) (new : State) → MaySay old reply new → MayChange old reply new

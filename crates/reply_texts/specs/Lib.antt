@@ -1,3 +1,4 @@
 pub mod Found
+pub mod Swept
 pub mod Replies
 pub mod Printing

@@ -23,6 +23,7 @@ mod names;
 mod printing;
 mod refusals;
 mod reply;
+mod swept;
 
 pub use frames::push_at;
 pub use printing::print_frames;

@@ -8,6 +8,7 @@ ghost use Rattle.reply_texts.specs.Replies.{overflow_text, place_text, spent_tex
 ghost use Rattle.reply_texts.specs.Replies.{target_text};
 
 use crate::found::push_probe;
+use crate::swept::{push_far, push_width};
 use cert_core::{Conflict, Path, UnfitPath};
 use claim_writing::{conflict_text, path_text, unfit_text};
 use compile_parts::KindWord;
@@ -48,6 +49,7 @@ fn kind_text(word: KindWord) -> &'static str
         KindWord::Suggested => "suggested",
         KindWord::Sized => "sized",
         KindWord::Tree => "tree",
+        KindWord::Sweep => "sweep",
     }
 }
 
@@ -105,6 +107,7 @@ fn push_place(out: &mut Vec<u8>, tree: &Tree, place: &StopPlace) -> Result<(), O
         StopPlace::Step => Ok(()),
         StopPlace::Still(ids) => push_stills(out, ids),
         StopPlace::Probe { attr, up } => push_probe(out, tree, *attr, *up),
+        StopPlace::Sweep(width) => push_width(out, *width),
     }
 }
 
@@ -161,6 +164,7 @@ pub fn push_refusal(tree: &Tree, refusal: &Refusal, out: &mut Vec<u8>) -> Result
         Refusal::Overflow { place, at } => push_overflow(out, tree, place, at),
         Refusal::Spent { place, path } => push_spent(out, tree, place, path),
         Refusal::NoTarget { attr, up } => push_target(out, tree, *attr, *up),
+        Refusal::SweepOverflow { width, path, what } => push_far(out, *width, path, what),
         Refusal::OutOfMemory => Err(OutOfMemory),
     }
 }

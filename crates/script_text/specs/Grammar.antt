@@ -39,7 +39,7 @@ first_words = (codes "view", key.View) ∷ (codes "tree", key.Tree) ∷ (codes "
 -- those that version 2 has besides
 unfoldable pub new_words : List (List ℕ × Keyword)
 new_words = (codes "direction", key.Direction) ∷ (codes "size", key.Size) ∷ (codes "unsize", key.Unsize)
-    ∷ []
+    ∷ (codes "sweep", key.Sweep) ∷ []
 
 -- the first words of lines in this version
 abbrev pub words_of : Version → List (List ℕ × Keyword)
@@ -189,6 +189,8 @@ Arguments len key.Direction = Words directions (λ d. Tail (End (mean.Turn d)))
 Arguments len key.Size = Name (λ n. Number (λ w. Number (λ h. Pull (codes "hug") (λ p.
     Pull (codes "resist") (λ q. End (mean.Size n (decimal false w) (decimal false h) p q))))))
 Arguments len key.Unsize = Name (λ n. End (mean.Unsize n))
+Arguments len key.Sweep = Word (codes "width") (Number (λ a. Number (λ b.
+    End (mean.Sweep (decimal false a) (decimal false b)))))
 
 -- whatever follows
 abbrev pub Any : {A : Type 0} → A → Rel A

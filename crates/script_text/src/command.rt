@@ -193,4 +193,9 @@ pub enum Command<'a> {
     Unsize {
         name: &'a str,
     },
+    /// What is best for all widths of the window from the one to the other is to be told.
+    Sweep {
+        from: Frac,
+        to: Frac,
+    },
 }

@@ -32,6 +32,7 @@ pub enum Keyword {
     Direction,
     Size,
     Unsize,
+    Sweep,
 }
 
 /// The version of a script, which says what commands there are.
@@ -156,7 +157,8 @@ fn old_word<'a>(
 fn new_word(text: &[u8]) -> Result<(Keyword, &[u8]), usize>
     ensures { Gives (λ p. (p.0, p.1.now)) result (tried new_words text.now) }
 {
-    let found = or_else(b"unsize", Keyword::Unsize, text, Err(text.len()));
+    let found = or_else(b"sweep", Keyword::Sweep, text, Err(text.len()));
+    let found = or_else(b"unsize", Keyword::Unsize, text, found);
     let found = or_else(b"size", Keyword::Size, text, found);
     or_else(b"direction", Keyword::Direction, text, found)
 }

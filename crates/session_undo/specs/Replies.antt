@@ -9,6 +9,10 @@ use Rattle.cert_core.specs.declared.by.By.{By}
 use Rattle.cert_core.specs.Claims.{BestLevel}
 use Rattle.cert_core.specs.Paths.{Path}
 use Rattle.diagnosis.specs.Diagnoses.{Findings, findings_of}
+use Rattle.frac_core.specs.Fraction.{Fraction}
+use Rattle.sweep_laws.specs.Stretches.{Stretch}
+use Rattle.sweep_run.specs.Told.{stretches_of}
+use Rattle.sweep_run.specs.declared.stretches.SweepQuantity.{SweepQuantity}
 use Rattle.session_undo.specs.State.{State}
 use Rattle.session_undo.specs.declared.reply.Reply as answer
 use Rattle.session_undo.specs.declared.reply.Reply.TheVariants as good
@@ -18,24 +22,27 @@ use Rattle.session_undo.specs.declared.reply.Refusal.{Refusal}
 use Rattle.session_undo.specs.declared.reply.Refusal.TheVariants as refusal
 
 -- what had stopped: the run over the command's own problem, or that of a removal while these rows were still
--- held, or a probe of this attribute, up or down
+-- held, or a probe of this attribute, up or down, or a run of a sweep, with this width
 pub data Place : Type 0 where
   Step : Place
   Still : List ℕ → Place
   Probe : ℕ → Bool → Place
+  Sweep : Fraction → Place
 
 -- what a stop's place in the code stands for
 abbrev pub place_of : StopPlace → Place
 place_of place.Step = Step
 place_of (place.Still ids) = Still ids.items
 place_of (place.Probe attr up) = Probe attr up
+place_of (place.Sweep width) = Sweep width
 
 -- `Nothing` to a blank line or a comment, `Done` to a change, `Frames`, `Rows`, `Certificate`, with the
--- multipliers of each level, and `Diagnosed`, with what is found of the scene, to questions, and the
--- refusals: where the line leaves the grammar, the unknown or taken name, the limit, the wrong use, the
--- multipliers of the required rows, that there is no earlier scene; and, each with what had stopped, the path
--- with the quantity that doesn't fit at its end, and the path that uses up the exchanges; and the attribute
--- of a probe whose wished value doesn't fit, up or down
+-- multipliers of each level, `Diagnosed`, with what is found of the scene, and `Swept`, with the stretches of
+-- widths, to questions, and the refusals: where the line leaves the grammar, the unknown or taken name, the
+-- limit, the wrong use, the multipliers of the required rows, that there is no earlier scene; and, each with
+-- what had stopped, the path with the quantity that doesn't fit at its end, and the path that uses up the
+-- exchanges; and the attribute of a probe whose wished value doesn't fit, up or down; and of a sweep the
+-- width, the path and what doesn't fit at its end
 pub data Reply : Type 0 where
   Nothing : Reply
   Done : Reply
@@ -43,6 +50,7 @@ pub data Reply : Type 0 where
   Rows : Reply
   Certificate : List BestLevel → Reply
   Diagnosed : Findings → Reply
+  Swept : List Stretch → Reply
   Outside : ℕ → Reply
   Unknown : List ℕ → Reply
   Taken : List ℕ → Reply
@@ -53,6 +61,7 @@ pub data Reply : Type 0 where
   Overflow : Place → Path → Quantity → Reply
   Spent : Place → Path → Reply
   NoTarget : ℕ → Bool → Reply
+  SweepOverflow : Fraction → Path → SweepQuantity → Reply
 
 -- whether it is no refusal
 abbrev pub is_accepted : Reply → Bool
@@ -62,6 +71,7 @@ is_accepted Frames = true
 is_accepted Rows = true
 is_accepted (Certificate levels) = true
 is_accepted (Diagnosed findings) = true
+is_accepted (Swept stretches) = true
 is_accepted (Outside at) = false
 is_accepted (Unknown name) = false
 is_accepted (Taken name) = false
@@ -72,6 +82,7 @@ is_accepted NoEarlier = false
 is_accepted (Overflow place path quantity) = false
 is_accepted (Spent place path) = false
 is_accepted (NoTarget attr up) = false
+is_accepted (SweepOverflow width path what) = false
 
 -- what a reply of the code to an accepted command stands for
 abbrev pub accepted : answer.Reply → Reply
@@ -81,6 +92,7 @@ accepted good.Frames = Frames
 accepted good.Rows = Rows
 accepted (good.Certificate levels) = Certificate levels
 accepted (good.Diagnosed d) = Diagnosed (findings_of d)
+accepted (good.Swept s) = Swept (stretches_of s.0.items)
 
 -- the refusal is one that F allows, or what ends the run
 abbrev pub MayRefuse : (Reply → Type 0) → Refusal → Type 0
@@ -94,6 +106,7 @@ MayRefuse F refusal.NoEarlier = F NoEarlier
 MayRefuse F (refusal.Overflow place at) = F (Overflow (place_of place) at.path at.quantity)
 MayRefuse F (refusal.Spent place path) = F (Spent (place_of place) path)
 MayRefuse F (refusal.NoTarget attr up) = F (NoTarget attr up)
+MayRefuse F (refusal.SweepOverflow width path what) = F (SweepOverflow width path what)
 MayRefuse F refusal.OutOfMemory = ⊤
 
 -- where the command is accepted, the step leads to its reply and the session after
@@ -116,6 +129,7 @@ IsTold F refusal.NoEarlier = F NoEarlier
 IsTold F (refusal.Overflow place at) = F (Overflow (place_of place) at.path at.quantity)
 IsTold F (refusal.Spent place path) = F (Spent (place_of place) path)
 IsTold F (refusal.NoTarget attr up) = F (NoTarget attr up)
+IsTold F (refusal.SweepOverflow width path what) = F (SweepOverflow width path what)
 IsTold F refusal.OutOfMemory = ⊥
 
 -- F holds of the reply that is told of what a command led to; none is told of want of memory
@@ -131,4 +145,5 @@ IsChange (Ok good.Frames) = ⊥
 IsChange (Ok good.Rows) = ⊥
 IsChange (Ok (good.Certificate levels)) = ⊥
 IsChange (Ok (good.Diagnosed d)) = ⊥
+IsChange (Ok (good.Swept s)) = ⊥
 IsChange (Err refusal) = ⊥

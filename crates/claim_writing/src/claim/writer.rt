@@ -138,6 +138,25 @@ fn best_apart(alloc: Global, values: &Values, best: &Best) -> Result<String, Out
     Ok(text)
 }
 
+// The lines of a conflict's multipliers, apart.
+fn bys_apart(alloc: Global, conflict: &Conflict) -> Result<String, OutOfMemory>
+    ensures { IfOk result (λ text. string_bytes text ≡ text_of_lines (map by_line conflict.now)) }
+{
+    let mut text = String::new(alloc);
+    put_bys(&mut text, conflict.by())?;
+    Ok(text)
+}
+
+/// Appends the lines of a conflict's multipliers alone. After want of memory nothing was appended.
+pub fn bys_text(conflict: &Conflict, out: &mut Vec<u8>) -> Result<(), OutOfMemory>
+    ensures written { IfOk result
+        (λ _. out.new.items ≡ out.old.items ++ text_of_lines (map by_line conflict.now)) }
+    ensures unchanged { OnErr result (out.new.items ≡ out.old.items) }
+{
+    let text = bys_apart(*out.allocator(), conflict)?;
+    Ok(out.extend_from_slice(text.as_bytes())?)
+}
+
 /// Appends the lines of a conflict. After want of memory nothing was appended.
 pub fn conflict_text(conflict: &Conflict, out: &mut Vec<u8>) -> Result<(), OutOfMemory>
     ensures written { IfOk result
