@@ -5,3 +5,4 @@ pub mod Lines
 pub mod Lists
 pub mod Lowest
 pub mod RowTerms
+pub mod Turned
