@@ -4,6 +4,7 @@
 By itself it takes crates/layout/out/layout. A script is an indented block that begins with a command: left is what is
 sent, right what comes back. `..` stands for lines that are left out, `ok` is left out everywhere, and of `frames` any
 line may be. A block goes on with the session before it or begins one, and is right where either gives what it shows.
+One that begins with a name and a colon is a script for many scenes, of the mode `host`, and begins anew.
 Where a section shows parts of a stored screen, its lines have to stand there, and its frames to come back there. A block
 that begins with `row` is a claim, to which `check` says `yes`. Ends with 1 where something isn't as shown."""
 import glob
@@ -17,7 +18,8 @@ PROGRAM = os.path.abspath((sys.argv[1:] or [f"{TOP}/crates/layout/out/layout"])[
 PAGES = ["README.md", "docs/GUIDE.md", "docs/LANGUAGE.md"]
 SCREENS = {"## 3. ": "Settings", "## 4. ": "Dialog"}
 WORDS = """layout view tree drop metric window vfl constrain remove suggest release direction size unsize undo budget
-frames rows diagnose certify ?""".split()
+frames rows diagnose certify why ?""".split()
+HOSTED = re.compile(r"[A-Za-z_]\w*: ")
 
 
 def blocks(page):
@@ -56,10 +58,10 @@ def run(mode, text):
     return subprocess.run([PROGRAM, mode], input=text, capture_output=True, text=True, check=False).stdout.split("\n")
 
 
-def replies(sent):
+def replies(mode, sent):
     """What comes back to each line: a line `?` behind each one marks where its reply ends."""
     found, reply = [], []
-    for line in run("run", "".join(f"{line}\n?\n" for line in sent)):
+    for line in run(mode, "".join(f"{line}\n?\n" for line in sent)):
         if reply and line == "refused 1 syntax 0":
             found.append(reply)
             reply = []
@@ -70,17 +72,19 @@ def replies(sent):
 
 def is_shown(sent, shown, reply):
     """Whether a reply is what is shown of it."""
+    name = HOSTED.match(sent)
+    ok = f"{name[0]}ok" if name else "ok"
     if not shown:
-        return reply[-1:] == ["ok"]
+        return reply[-1:] == [ok]
     some = "(.*\n)*"
-    pattern = [some if line == ".." else re.escape(f"{line}\n") for line in shown if line != "ok"]
-    pattern = some + some.join(pattern) + some if sent == "frames" else "".join(pattern)
-    return re.fullmatch(pattern, "".join(f"{line}\n" for line in reply if line != "ok")) is not None
+    pattern = [some if line == ".." else re.escape(f"{line}\n") for line in shown if line != ok]
+    pattern = some + some.join(pattern) + some if sent.endswith("frames") else "".join(pattern)
+    return re.fullmatch(pattern, "".join(f"{line}\n" for line in reply if line != ok)) is not None
 
 
-def differences(before, script):
+def differences(before, script, mode="run"):
     """What of a script doesn't come back as shown, where that of `before` was sent first."""
-    got = replies([sent for sent, _ in before + script])[len(before):]
+    got = replies(mode, [sent for sent, _ in before + script])[len(before):]
     return [(sent, shown, reply) for (sent, shown), reply in zip(script, got) if not is_shown(sent, shown, reply)]
 
 
@@ -115,6 +119,8 @@ def main():
                 bad = differences([], script)
                 session = session + script if bad else script
                 bad = bad and differences(session[: -len(script)], script)
+            elif HOSTED.match(block[0]):
+                bad = differences([], script_of(block), "host")
             elif block[0].startswith("row 1 "):
                 verdict = run("check", "\n".join(block) + "\n")[0]
                 bad = [] if verdict == "yes" else [("check", ["yes"], [verdict])]

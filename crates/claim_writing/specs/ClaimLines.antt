@@ -83,6 +83,14 @@ best_lines values best = map value_line values ++ line_of best_words ∷ lines_o
 abbrev pub conflict_lines : List By → List (List ℕ)
 conflict_lines bys = line_of conflict_words ∷ map by_line bys
 
+-- the text of multipliers
+abbrev pub bys_text : List By → List ℕ
+bys_text bys = text_of_lines (map by_line bys)
+
+-- the text of values
+abbrev pub values_text : List (ℕ × Fraction) → List ℕ
+values_text values = text_of_lines (map value_line values)
+
 -- the lines of a claim
 abbrev pub claim_lines : Claim → List (List ℕ)
 claim_lines (IsBest values best) = best_lines values best

@@ -11,3 +11,4 @@ pub mod BoundLines
 pub mod BoundsFit
 pub mod BoundRemovals
 pub mod MiddleRemovals
+pub mod Questions

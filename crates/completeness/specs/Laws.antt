@@ -5,6 +5,7 @@ use Rattle.problem_core.specs.declared.parts.Mark.{Mark}
 use Rattle.problem_core.specs.Layout.{Assignment, IsInConflict, Problem, Row, Satisfies}
 use Rattle.cert_core.specs.declared.by.By.{By}
 use Rattle.corner_laws.specs.Laws.{AllFit}
+use Rattle.conflict_core.specs.Cores.{IsCore}
 use Rattle.script_text.specs.Meaning.{Meaning}
 use Rattle.script_text.specs.Meaning as mean
 use Rattle.session_undo.specs.declared.limits.TheConstants.{BUDGET_LIMIT}
@@ -12,13 +13,15 @@ use Rattle.session_undo.specs.Adding.{NoEnd, NoOther}
 use Rattle.session_undo.specs.Machine.{Finds, LeftSpends, MeaningStep, Poses, ProbeSpends}
 use Rattle.scenes.specs.Steps.{IsProblemOf}
 use Rattle.session_undo.specs.Machine.{Spends, Tried}
-use Rattle.session_undo.specs.Replies.{Conflict, Done, Reply, is_accepted}
+use Rattle.session_undo.specs.Explaining.{WhyStep}
+use Rattle.session_undo.specs.Replies.{Conflict, Core, Done, Reply, Solvable, is_accepted}
 use Rattle.scenes.specs.Leaving.{stood_of}
 use Rattle.scenes.specs.Scene.{Scene, first_scene, problem_of}
 use Rattle.session_undo.specs.State.{IsFirst, State}
 use Rattle.completeness.specs.Examples.{steep}
 use Rattle.completeness.specs.Bounds.{AreBounds}
-use Rattle.completeness.specs.Room.{HasRoomToLeave, HasRoomToProbe, HasRoomToStep, IsLarge, IsProbed}
+use Rattle.completeness.specs.Room.{HasRoomToExplain, HasRoomToLeave, HasRoomToProbe, HasRoomToStep}
+use Rattle.completeness.specs.Room.{IsLarge, IsProbed}
 use Rattle.completeness.specs.Room.{probe_problem}
 use Rattle.completeness.specs.States.{bounded_state, held_state}
 
@@ -70,6 +73,21 @@ abbrev pub ChangesAreAnswered : Type 0
 ChangesAreAnswered = (old : State) (m : Meaning) (reply : Reply) (new : State) → IsChanging m
     → ((p : Problem) → Poses old m p → HasRoomToStep old m p) → MeaningStep old m reply new
     → IsRefused old m reply new ⊎ ((p : Problem) × Poses old m p × ComesTo m p reply)
+
+-- ---- questions
+
+-- the required rows have a solution, and that there is no conflict is told; or a core of them is told
+abbrev pub IsExplained : Problem → Reply → Type 0
+IsExplained p reply = (((x : Assignment) × Satisfies p x) × (reply ≡ Solvable))
+    ⊎ ((ids : List ℕ) × (by : List By) × (values : List (ℕ × List (ℕ × Fraction))) × IsCore p ids
+    × (reply ≡ Core ids by values))
+
+-- where each trial of the command's problem has room, a cause is against the command, or why it would clash
+-- is told, and nothing changes
+abbrev pub QuestionsAreAnswered : Type 0
+QuestionsAreAnswered = (old : State) (m : Meaning) (reply : Reply) (new : State)
+    → ((p : Problem) → Poses old m p → HasRoomToExplain old.budget p) → WhyStep old m reply new
+    → IsRefused old m reply new ⊎ ((new ≡ old) × ((p : Problem) × Poses old m p × IsExplained p reply))
 
 -- ---- other commands
 

@@ -7,6 +7,7 @@ use Rattle.problem_core.specs.Layout.{HasStay, Problem, Row}
 use Rattle.corner_laws.specs.Laws.{AllFit}
 use Rattle.layout_solver.specs.Layouts.{Layout}
 use Rattle.layout_solver.specs.Removals.{CanLeave, Leaving, without, without_rows}
+use Rattle.conflict_core.specs.Laws as cores
 use Rattle.diagnosis.specs.Probes.{IsBeside, next_num, with_probe}
 use Rattle.script_text.specs.Meaning.{Meaning}
 use Rattle.script_text.specs.Meaning as mean
@@ -47,6 +48,14 @@ HasRoomToStep old (mean.Release name attr) = HasRoomToLeave old
 HasRoomToStep old (mean.Turn to) = λ p. Unit {0}
 HasRoomToStep old (mean.Unsize name) = HasRoomToLeave old
 HasRoomToStep old _ = HasRoom old.scene.rows old.budget
+
+-- ---- questions
+
+-- there is room to tell why a command would clash, where this is its problem: the problem is one that the
+-- types can hold, and each trial of its required rows has room
+pub record HasRoomToExplain (budget : ℕ) (p : Problem) : Type 0 where
+  pub whole : IsWhole p
+  pub trials : cores.HasRoom p budget
 
 -- ---- probes
 

@@ -12,7 +12,8 @@ use Rattle.script_text.specs.declared.words.AttrWord.{AttrWord}
 use Rattle.script_text.specs.declared.words.AttrWord.TheVariants.{Height, Left}
 use Rattle.script_text.specs.declared.words.Direction.TheVariants.{Ltr}
 use Rattle.script_text.specs.declared.words.Version.TheVariants.{One}
-use Rattle.view_tree.specs.Views.{window}
+use Rattle.view_tree.specs.Views.{first_tree}
+use Rattle.view_tree.specs.declared.limits.TheConstants.{VIEW_LIMIT}
 use Rattle.compile_parts.specs.Meaning.{Nothing, Number}
 use Rattle.constraint_compile.specs.Compiled.{RowForm}
 use Rattle.constraint_compile.specs.Suggestions.{suggested_row}
@@ -27,7 +28,7 @@ use Rattle.completeness.specs.Examples.{lone_row, zero_stay}
 abbrev pub state_of : List Item → List Row → Fraction → State
 state_of held rows value = record {
   scene = record {
-    tree = record { views = window ∷ []; next = 1 };
+    tree = first_tree VIEW_LIMIT;
     metrics = [];
     held = held;
     next_row = 2;
@@ -102,7 +103,7 @@ three_rows = required_row 5 window_width Ge (record { num = pos 1; den = 1 })
 abbrev pub bounded_state : State
 bounded_state = record {
   scene = record {
-    tree = record { views = window ∷ []; next = 1 };
+    tree = first_tree VIEW_LIMIT;
     metrics = [];
     held = OfWindow ∷ OfLine (103 ∷ []) (record { rows = width_form ∷ []; views = 0 ∷ [] })
         ∷ Suggested (zero_suggestion 6 Height) ∷ Suggested (zero_suggestion 7 Left) ∷ [];

@@ -9,7 +9,8 @@ ghost use Rattle.completeness.specs.Room.{HasRoomToProbe};
 ghost use Rattle.completeness.specs.Laws.{BoundRemovalsHaveRoom, BoundsFit, ChangesAreAnswered};
 ghost use Rattle.completeness.specs.Laws.{FirstMetricsAreAccepted, FirstSceneFits};
 ghost use Rattle.completeness.specs.Laws.{LargeBudgetsAreNeverSpent, OthersAreAccepted, ProbesAreAnswered};
-ghost use Rattle.completeness.specs.Laws.{MiddleRemovalHasRoom, RemovalHasRoom, SteepDoesNotFit};
+ghost use Rattle.completeness.specs.Laws.{MiddleRemovalHasRoom, QuestionsAreAnswered, RemovalHasRoom};
+ghost use Rattle.completeness.specs.Laws.{SteepDoesNotFit};
 
 /// Where there is room for the problem of a command that makes a change, a cause is against it, or it is
 /// accepted where the required rows have a solution, and refused for their conflict where they have none.
@@ -21,6 +22,11 @@ pub fn changes_are_answered()
 /// Where there is room for each probe, `diagnose` tells what is found.
 pub fn probes_are_answered()
     ensures { ProbesAreAnswered }
+{}
+
+/// Where there is room for each trial, why a command would clash is told, unless a cause is against it.
+pub fn questions_are_answered()
+    ensures { QuestionsAreAnswered }
 {}
 
 /// A comment, a question, `undo` with an earlier scene, and a budget within its limits are accepted, whatever

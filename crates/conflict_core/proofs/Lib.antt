@@ -7,6 +7,7 @@ pub mod OwnRows
 pub mod Naming
 pub mod Narrowing
 pub mod EngineValues
+pub mod GivingWay
 pub mod Outcomes
 pub mod CoreLaws
 pub mod CoreExamples

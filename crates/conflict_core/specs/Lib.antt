@@ -2,5 +2,6 @@ pub mod Cores
 pub mod Shown
 pub mod Trials
 pub mod Searches
+pub mod Yielding
 pub mod Laws
 pub mod Instances

@@ -11,6 +11,7 @@ use crate::found::{CoreStop, Found};
 use crate::listing::{attributes, required_rows};
 use crate::search::{begun, searched};
 use crate::trials::{Outcome, Trials, tried};
+use crate::yielding::hasten;
 use cert_core::Conflict;
 use layout_solver::Engine;
 use problem_core::Problem;
@@ -25,7 +26,8 @@ fn found_among(alloc: Global, e: &mut Engine, t: &Trials, by: Conflict) -> Resul
     ensures stop { IfErr result (IsCoreStop t.now.problem.now t.now.budget) }
 {
     t.problem.show_whole(); // for the proof: what a problem keeps
-    let s = begun(alloc, by)?;
+    let mut s = begun(alloc, by)?;
+    hasten(alloc, t, &mut s)?;
     searched(alloc, e, t, s)
 }
 

@@ -20,8 +20,15 @@
 //! ([`layout_solver::Engine::add`]), with the whole budget. The first one has all required rows. Where they
 //! clash, the multipliers name rows that clash by themselves, and from then on each trial leaves one of
 //! these out. If the others have a solution, its values are kept. If they clash too, their multipliers name
-//! still fewer rows. That ends when there are values without each row. Who has multipliers already, from an
-//! engine that holds most of the rows, spares the first trial ([`core_among`]), which is the dearest.
+//! still fewer rows. That ends when there are values without each row.
+//!
+//! Before that one engine is given all rows of the multipliers at once, where the first one gives way: its
+//! constant is moved by what the rows clash, so that all of them hold just so. From there each next row gives
+//! way in turn by a change of two constants ([`layout_solver::Engine::shift`]), which takes few exchanges or
+//! none. Where that stops, the trials go on.
+//!
+//! Who has multipliers already, from an engine that holds most of the rows, spares the first trial
+//! ([`core_among`]), which is the dearest.
 //!
 //! | Clause | Says |
 //! |---|---|
@@ -38,8 +45,9 @@
 //! narrowed to that of each infeasible trial.
 //!
 //! To read: `found` (what is answered), `listing` (rows and attributes of a problem), `trials` (one trial),
-//! `search` (from rows that clash to a core), `finding` ([`core`]), `laws`; `specs/Cores.antt` says what a
-//! core is, and `specs/Shown.antt` what shows one.
+//! `search` (from rows that clash to a core), `yielding` (values without each of them on one engine),
+//! `finding` ([`core`]), `laws`; `specs/Cores.antt` says what a core is, and `specs/Shown.antt` what shows
+//! one.
 #![tactic(auto)]
 
 mod finding;
@@ -48,6 +56,7 @@ mod laws;
 mod listing;
 mod search;
 mod trials;
+mod yielding;
 
 pub use finding::{core, core_among};
 pub use found::{CoreStop, Found};

@@ -44,8 +44,8 @@ fn add_rows(alloc: Global, e: &mut Engine, t: &Trials, ids: &[u32]) -> Result<()
     e.add(t.attrs, &rows, t.budget)
 }
 
-// The values of an engine, by rising attribute.
-fn values_of(alloc: Global, e: &Engine) -> Result<Values, OutOfMemory>
+/// The values of an engine, by rising attribute.
+pub(crate) fn values_of(alloc: Global, e: &Engine) -> Result<Values, OutOfMemory>
     ensures { IfOk result (λ values. values ≡ e.now.values) }
 {
     e.show_layout(); // for the proof: what an engine keeps

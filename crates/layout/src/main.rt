@@ -2,6 +2,7 @@
 //!
 //! ```text
 //! layout run < script         the replies to the lines of a script
+//! layout host < script        the replies to the lines of a script of many scenes, each behind a name
 //! layout check < claim        the checker's verdict on a problem with a claim
 //! layout make 7 60            what a run of the script comes to that is drawn from the seed 7 for 60 views
 //! ```

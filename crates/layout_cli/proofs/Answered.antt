@@ -1,11 +1,11 @@
 -- What a line led to, and what was put of its reply.
-use Rattle.std.proofs.Common.{◌≡◌, ◌∙◌, ◌⊎◌, ◌<◌, Bool, true, false, is_err, is_ok, List, [], ℕ, length, refl, sym, ap, ap₂, subst, inl, inr, arith, true≢false}
+use Rattle.std.proofs.Common.{◌≡◌, ◌∙◌, ◌⊎◌, ◌<◌, Bool, true, false, is_err, is_ok, List, ℕ, length, refl, sym, ap, ap₂, subst, inl, inr, arith, true≢false}
 use Rattle.std.specs.Prelude.{IfOk, IfErr, OnErr, not}
 use Rattle.std.specs.declared.result.Result.{Result}
 use Rattle.std.specs.declared.result.Result.TheVariants.{Ok, Err}
 use Rattle.name_tables.specs.declared.stops.LimitWord.TheVariants as word
-use Rattle.script_text.specs.Grammar.{Line, words_of}
-use Rattle.script_text.specs.Meaning.{Meaning}
+use Rattle.script_text.specs.Grammar.{Line, says_nothing, words_of}
+use Rattle.script_text.specs.Meaning.{Meaning, Said}
 use Rattle.script_text.specs.Meaning as mean
 use Rattle.script_text.specs.declared.words.Version.TheVariants as version
 use Rattle.script_text.proofs.LineLemmas.{one_reading}
@@ -13,13 +13,15 @@ use Rattle.session_undo.specs.declared.reply.Refusal.{Refusal}
 use Rattle.session_undo.specs.declared.reply.Refusal.TheVariants as refusal
 use Rattle.session_undo.specs.declared.reply.Reply as answer
 use Rattle.session_undo.specs.declared.reply.Reply.TheVariants as good
-use Rattle.session_undo.specs.State.{IsFirstOf, State}
+use Rattle.session_undo.specs.State.{IsFirstWith, State}
+use Rattle.session_undo.specs.Explaining.{SaidStep}
 use Rattle.session_undo.specs.Machine.{MeaningStep}
-use Rattle.session_undo.specs.Replies.{Reply, MayRefuse, IsTold, Tells, accepted, is_accepted, Nothing, Done, Frames, Rows, Certificate, Diagnosed, Outside, Unknown, Taken, Limit, Kind, Conflict, NoEarlier, Overflow, Spent, NoTarget, place_of}
+use Rattle.conflict_core.specs.declared.found.Found.TheVariants as found
+use Rattle.session_undo.specs.Replies.{Reply, MayRefuse, IsTold, Tells, accepted, is_accepted, Nothing, Done, Frames, Rows, Certificate, Core, Diagnosed, Solvable, Outside, Unknown, Taken, Limit, Kind, Conflict, NoEarlier, Overflow, Spent, NoTarget, place_of}
 use Rattle.diagnosis.specs.Diagnoses.{findings_of}
 use Rattle.reply_texts.specs.Replies.{text_of}
-use Rattle.layout_cli.specs.Machine.{Answers, Begins, GoesOn, IsSilent, LeadsTo, Opens, Step, Talking, Talks, TalksAfter}
-use Rattle.layout_cli.proofs.BestRuns.{MaySay, blank_or, is_blank, is_nothing, meaning-says}
+use Rattle.layout_cli.specs.Machine.{Answers, Begins, GoesOn, IsSilent, LeadsTo, Step, Talking, Talks, TalksAfter}
+use Rattle.layout_cli.proofs.BestRuns.{MaySay, blank_or, is_nothing, meaning-says, why-says}
 use Rattle.layout_cli.proofs.Versions.{blank_before, line_later}
 
 -- ---- lines to which nothing is said
@@ -28,25 +30,30 @@ says-something : (old : State) (reply : Reply) (new : State) → MaySay old repl
 says-something old reply new (inl (some, same)) none = true≢false (sym (ap is_nothing none) ∙ some)
 says-something old reply new (inr (done, to)) none = true≢false (sym (ap is_nothing none) ∙ ap is_nothing done)
 
--- where a line gets no reply it is blank or a comment, and nothing changes
-silent_line : (old : State) (line : List ℕ) (reply : Reply) (new : State) → Step old line reply new → reply ≡ Nothing → IsSilent line × (new ≡ old)
-silent_line old line reply new (inl (long, is, same)) none = absurd (true≢false (sym (ap is_nothing none) ∙ ap is_nothing is))
-silent_line old line reply new (inr (short, inl (at, leaves, (is, same)))) none = absurd (true≢false (sym (ap is_nothing none) ∙ ap is_nothing is))
-silent_line old line reply new (inr (short, inr (m, reads, step))) none = elim (blank_or m) [
+-- a command that gets no reply is none, and nothing changes; a question gets one
+silent_saying : (old : State) (line : List ℕ) (reply : Reply) (new : State) → (4096 < length line → ⊥) → (said : Said) → Line (words_of old.version) line said → SaidStep old said reply new → reply ≡ Nothing → IsSilent line × (new ≡ old)
+silent_saying old line reply new short (mean.Does m) reads step none = elim (blank_or m) [
   | inl blank ↦ (
-    (omega (arith, short), blank_before old.version line (subst (Line (words_of old.version) line) blank reads)),
+    (omega (arith, short), blank_before old.version line (subst (λ (n : Meaning). Line (words_of old.version) line (mean.Does n)) blank reads)),
     (subst (λ (n : Meaning). MeaningStep old n reply new) blank step).1,
   )
   | inr some ↦ absurd (says-something old reply new (meaning-says old reply new m some step) none)
 ]
+silent_saying old line reply new short (mean.Why m) reads step none = absurd (says-something old reply new (why-says old reply new m step) none)
+
+-- where a line gets no reply it is blank or a comment, and nothing changes
+silent_line : (old : State) (line : List ℕ) (reply : Reply) (new : State) → Step old line reply new → reply ≡ Nothing → IsSilent line × (new ≡ old)
+silent_line old line reply new (inl (long, is, same)) none = absurd (true≢false (sym (ap is_nothing none) ∙ ap is_nothing is))
+silent_line old line reply new (inr (short, inl (at, leaves, (is, same)))) none = absurd (true≢false (sym (ap is_nothing none) ∙ ap is_nothing is))
+silent_line old line reply new (inr (short, inr (said, reads, step))) none = silent_saying old line reply new short said reads step none
 
 -- where it gets one it isn't
 spoken_line : (old : State) (line : List ℕ) (reply : Reply) (new : State) → Step old line reply new → (reply ≡ Nothing → ⊥) → IsSilent line → ⊥
 spoken_line old line reply new (inl (long, is, same)) some silent = omega (arith, long, silent.0)
-spoken_line old line reply new (inr (short, inl (at, leaves, keeps))) some silent = leaves.outside mean.Nothing (line_later old.version line mean.Nothing silent.1)
-spoken_line old line reply new (inr (short, inr (m, reads, step))) some silent =
-    let blank : m ≡ mean.Nothing = one_reading old.version line m mean.Nothing reads (line_later old.version line mean.Nothing silent.1) in
-    some (subst (λ (n : Meaning). MeaningStep old n reply new) blank step).0
+spoken_line old line reply new (inr (short, inl (at, leaves, keeps))) some silent = leaves.outside says_nothing (line_later old.version line says_nothing silent.1)
+spoken_line old line reply new (inr (short, inr (said, reads, step))) some silent =
+    let blank : said ≡ says_nothing = one_reading old.version line said says_nothing reads (line_later old.version line says_nothing silent.1) in
+    some (subst (λ (s : Said). SaidStep old s reply new) blank step).0
 
 -- ---- what is kept in mind
 
@@ -75,6 +82,8 @@ heard good.Frames mid last hears = some_heard (Ok good.Frames) Frames mid last r
 heard good.Rows mid last hears = some_heard (Ok good.Rows) Rows mid last refl refl hears
 heard (good.Certificate levels) mid last hears = some_heard (Ok (good.Certificate levels)) (Certificate levels) mid last refl refl hears
 heard (good.Diagnosed d) mid last hears = some_heard (Ok (good.Diagnosed d)) (Diagnosed (findings_of d)) mid last refl refl hears
+heard (good.Why found.Solvable) mid last hears = some_heard (Ok (good.Why found.Solvable)) Solvable mid last refl refl hears
+heard (good.Why (found.Core rows by without)) mid last hears = some_heard (Ok (good.Why (found.Core rows by without))) (Core rows.items by without.items) mid last refl refl hears
 
 -- the talking that comes of what a line led to
 abbrev pub kept_in_mind : Result answer.Reply Refusal → Talking → Talking
@@ -88,6 +97,7 @@ mind_hears (Ok good.Frames) mid = record { state = refl; silent = λ is. absurd 
 mind_hears (Ok good.Rows) mid = record { state = refl; silent = λ is. absurd (true≢false (sym (ap is_silent is))); told = λ loud. refl }
 mind_hears (Ok (good.Certificate levels)) mid = record { state = refl; silent = λ is. absurd (true≢false (sym (ap is_silent is))); told = λ loud. refl }
 mind_hears (Ok (good.Diagnosed d)) mid = record { state = refl; silent = λ is. absurd (true≢false (sym (ap is_silent is))); told = λ loud. refl }
+mind_hears (Ok (good.Why f)) mid = record { state = refl; silent = λ is. absurd (true≢false (sym (ap is_silent is))); told = λ loud. refl }
 mind_hears (Err stop) mid = record { state = refl; silent = λ is. absurd (true≢false (sym (ap is_silent is))); told = λ loud. refl }
 
 -- ---- the reply that is told
@@ -99,6 +109,8 @@ is_good good.Frames = refl
 is_good good.Rows = refl
 is_good (good.Certificate levels) = refl
 is_good (good.Diagnosed d) = refl
+is_good (good.Why found.Solvable) = refl
+is_good (good.Why (found.Core rows by without)) = refl
 
 -- the refusal that is told is one that P allows
 told_as : (P F : Reply → Type 0) (r : Refusal) → MayRefuse P r → IsTold F r → (reply : Reply) × P reply × F reply × (false ≡ is_accepted reply) × (is_nothing reply ≡ false)
@@ -149,7 +161,7 @@ begins : (old mid last : Talking) (line : List ℕ) (reply : Reply) → old.begu
     → Begins old.state line (text_of mid.state.scene reply) (is_accepted reply) last
 begins old mid last line reply unbegun same (inl (opens, done, first)) (inl (none, as_mid)) is = absurd (true≢false (sym (ap is_nothing none) ∙ ap is_nothing done))
 begins old mid last line reply unbegun same (inl (opens, done, first)) (inr (some, now)) is =
-    inr (inl (opens.1, ap (text_of mid.state.scene) done, ap is_accepted done, subst (IsFirstOf version.Two) (sym is) first, now))
+    inr (inl (opens.1, ap (text_of mid.state.scene) done, ap is_accepted done, subst (IsFirstWith old.state.limits version.Two) (sym is) first, now))
 begins old mid last line reply unbegun same (inr (other, step)) (inl (none, as_mid)) is =
     let silent = silent_line old.state line reply mid.state step none in
     inl (silent.0, ap (text_of mid.state.scene) none, ap is_accepted none, as_mid ∙ known mid old.state false silent.1 (same ∙ unbegun))

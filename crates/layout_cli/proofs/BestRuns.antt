@@ -11,7 +11,7 @@ use Rattle.held_items.specs.declared.item.intrinsic.IntrinsicSize.{IntrinsicSize
 use Rattle.held_items.specs.Items.{intrinsic_name, intrinsic_of, suggestion_name, suggestion_of}
 use Rattle.frac_core.specs.Fraction.{Fraction}
 use Rattle.script_text.specs.Directions.{line_in}
-use Rattle.script_text.specs.Meaning.{Meaning}
+use Rattle.script_text.specs.Meaning.{Meaning, Said}
 use Rattle.script_text.specs.Meaning as mean
 use Rattle.constraint_compile.specs.Compiled.{CompiledLine}
 use Rattle.constraint_compile.specs.Stops.{IsCompiled, MayStop}
@@ -21,19 +21,22 @@ use Rattle.format_compile.specs.FormatRows.{IsCompiledFormat, MayStopFormat}
 use Rattle.compile_parts.specs.declared.stops.CompileStop.{CompileStop}
 use Rattle.scenes.specs.Scene.{Scene, IsBestScene, with_earlier, with_metric}
 use Rattle.session_undo.specs.State.{State, IsBestState}
-use Rattle.held_items.specs.declared.limits.TheConstants.{EARLIER}
-use Rattle.session_undo.specs.Replies.{Reply, Nothing, Done, Frames, Rows, Certificate, Diagnosed, Outside, Unknown, Taken, Limit, Kind, Conflict, NoEarlier, Overflow, Spent, NoTarget, Place, Step as OfStep, Probe}
+use Rattle.session_undo.specs.Replies.{Reply, Nothing, Done, Frames, Rows, Certificate, Diagnosed, Outside, Unknown, Taken, Limit, Kind, Conflict, NoEarlier, Overflow, Spent, NoTarget, Step as OfStep, Probe, Core, Held, Solvable}
+use Rattle.problem_core.specs.Layout.{Problem}
+use Rattle.session_undo.specs.Adding.{NoEnd, NoOther}
+use Rattle.session_undo.specs.Explaining.{Explains, SaidStep, WhyStep}
+use Rattle.session_undo.proofs.Commands.Carried.{caused}
 use Rattle.layout_solver.specs.declared.removing.RemoveStop.{RemoveStop}
 use Rattle.layout_solver.specs.declared.removing.RemoveStop.TheVariants as removal
-use Rattle.session_undo.specs.Machine.{Diagnoses, Accepts, LeavesFree, Sizes, Solves, SolvesFree, Stands, Suggests, TellsStill, TriedConstraint, TriedDrop, TriedFormat, TriedRelease, TriedRemove, TriedSize, TriedSuggest, TriedUnsize, MeaningStep, TriedView, TriedTree, TriedMetric, TriedWindow, TriedLine, TriedBudget, TriedUndo, UnlessFar, Keeps, parent_name, still_place}
+use Rattle.session_undo.specs.Machine.{Diagnoses, Accepts, LeavesFree, Sizes, Solves, SolvesFree, Stands, Suggests, TellsStill, TriedDrop, TriedRelease, TriedRemove, TriedSize, TriedSuggest, TriedUnsize, MeaningStep, TriedView, TriedTree, TriedMetric, TriedWindow, TriedLine, TriedBudget, TriedUndo, UnlessFar, Ends, Keeps, Tried, parent_name, still_place}
 use Rattle.layout_cli.specs.Machine.{GrammarStep, Step, Run}
 
 kept : (old new : State) → IsBestState old → new ≡ old → IsBestState new
 kept old new best is = subst IsBestState (sym is) best
 
 -- the scene before is a best one among the earlier
-best-kept : (old : State) → IsBestState old → All IsBestScene (with_earlier old.scene old.earlier)
-best-kept old best = All-take IsBestScene EARLIER (old.scene ∷ old.earlier) (All-cons IsBestScene old.scene old.earlier best.0 best.1)
+best-kept : (old : State) → IsBestState old → All IsBestScene (with_earlier old.limits.undo old.scene old.earlier)
+best-kept old best = All-take IsBestScene old.limits.undo (old.scene ∷ old.earlier) (All-cons IsBestScene old.scene old.earlier best.0 best.1)
 
 -- there is no reply
 abbrev pub is_nothing : Reply → Bool
@@ -174,6 +177,13 @@ module _ (old : State) (reply : Reply) (new : State) where
   diagnose-change (inr (inr (inl stop))) = told (Spent (Probe stop.attr stop.up) stop.path) refl stop.refused.0 stop.refused.1
   diagnose-change (inr (inr (inr stop))) = told (NoTarget stop.attr stop.up) refl stop.refused.0 stop.refused.1
 
+  -- so does what explains a problem
+  pub explains-say : (p : Problem) → Explains old p reply new → MaySay old reply new
+  explains-say p (inl none) = told Solvable refl none.told.0 none.told.1
+  explains-say p (inr (inl core)) = told (Core core.ids core.by core.values) refl core.told.0 core.told.1
+  explains-say p (inr (inr (inl over))) = told (Overflow (Held over.held.items) over.at.path over.at.quantity) refl over.refused.0 over.refused.1
+  explains-say p (inr (inr (inr spent))) = told (Spent (Held spent.held.items) spent.path) refl spent.refused.0 spent.refused.1
+
   -- what isn't blank gets some reply
   pub meaning-says : (m : Meaning) → is_blank m ≡ false → MeaningStep old m reply new → MaySay old reply new
   meaning-says mean.Nothing some step = absurd (true≢false some)
@@ -225,6 +235,14 @@ blank_or (mean.Turn to) = inr refl
 blank_or (mean.Size name width height hug resist) = inr refl
 blank_or (mean.Unsize name) = inr refl
 
+-- what asks why gets some reply
+pub why-says : (old : State) (reply : Reply) (new : State) (m : Meaning) → WhyStep old m reply new → MaySay old reply new
+why-says old reply new m (inl cause) = elim (blank_or m) [
+  | inl blank ↦ absurd (subst (λ (n : Meaning). Tried old n NoEnd NoOther reply new) blank cause)
+  | inr some ↦ meaning-says old reply new m some (caused old m (Ends old m) Keeps reply new cause)
+]
+why-says old reply new m (inr (p, poses, explains)) = explains-say old reply new p explains
+
 -- what says something may change something
 said-change : (old : State) (reply : Reply) (new : State) → MaySay old reply new → MayChange old reply new
 said-change old reply new (inl (some, same)) = inl same
@@ -237,9 +255,13 @@ meaning-change old m reply new step = changed (blank_or m)
     changed (inl blank) = inl (subst (λ (n : Meaning). MeaningStep old n reply new) blank step).1
     changed (inr some) = said-change old reply new (meaning-says old reply new m some step)
 
+saying-change : (old : State) (said : Said) (reply : Reply) (new : State) → SaidStep old said reply new → MayChange old reply new
+saying-change old (mean.Does m) reply new step = meaning-change old m reply new step
+saying-change old (mean.Why m) reply new step = said-change old reply new (why-says old reply new m step)
+
 grammar-change : (old : State) (line : List ℕ) (reply : Reply) (new : State) → GrammarStep old line reply new → MayChange old reply new
 grammar-change old line reply new (inl (at, leaves, keeps)) = inl keeps.1
-grammar-change old line reply new (inr (m, reads, step)) = meaning-change old m reply new step
+grammar-change old line reply new (inr (said, reads, step)) = saying-change old said reply new step
 
 pub step-change : (old : State) (line : List ℕ) (reply : Reply) (new : State) → Step old line reply new → MayChange old reply new
 step-change old line reply new (inl x) = inl x.2

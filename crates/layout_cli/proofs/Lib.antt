@@ -4,4 +4,7 @@ pub mod Told
 pub mod Made
 pub mod Answered
 pub mod Lines
+pub mod Hosts
+pub mod Behind
+pub mod WholeLines
 pub mod Stops

@@ -1,8 +1,8 @@
 -- The answers to a script's lines are a run of the script.
-use Rattle.std.proofs.Common.{◌≡◌, ◌∙◌, ◌++◌, ◌&&◌, ℕ, Bool, true, false, List, [], ◌∷◌, refl, sym, ap, ap₂, subst, inl, inr}
+use Rattle.std.proofs.Common.{◌≡◌, ◌∙◌, ◌++◌, ◌&&◌, ℕ, Bool, true, false, List, [], ◌∷◌, refl, sym, ap, subst, inl, inr}
 use Rattle.std.specs.Str.Lines.{lines}
 use Rattle.script_text.specs.declared.words.Version.TheVariants as version
-use Rattle.session_undo.specs.State.{IsFirstOf, State}
+use Rattle.session_undo.specs.State.{IsFirstOf, IsFirstWith, Limits, State}
 use Rattle.line_by_line.specs.Answers.{AreAnswered, Machine, texts_of}
 use Rattle.layout_cli.specs.Machine.{Begins, GoesOn, IsRunOf, NewRun, Run, RunOf, Talking, Talks, TalksAfter}
 
@@ -56,7 +56,8 @@ module _ {A : Type 0} (at : A → Talking) where
             (
               rest,
               text_is ∙ ap (λ (t : List ℕ). t ++ rest) told_is,
-              subst (λ (b : Bool). NewRun version.Two more rest b) (sym (rest_decides so)) ((at mid).state, (at last).state, first_two, begun_run more mid last rest rest_good begun run),
+              subst (λ (b : Bool). NewRun version.Two more rest b) (sym (rest_decides so))
+                  ((at mid).state, (at last).state, subst (λ (l : Limits). IsFirstWith l version.Two (at mid).state) (ap (λ (s : State). s.limits) new.1) first_two, begun_run more mid last rest rest_good begun run),
             ),
           ))
       begun_by after (inr (inr (not_silent, not_opening, (reply, step, told_is, good_is), begun))) =

@@ -5,6 +5,7 @@ use Rattle.std.specs.declared.result.Result.{Result}
 use Rattle.std.specs.declared.result.Result.TheVariants.{Ok, Err}
 use Rattle.session_undo.specs.State.{State}
 use Rattle.session_undo.specs.Replies.{Reply, MayRefuse, accepted, is_accepted, place_of, Outside, Unknown, Taken, Limit, Kind, Conflict, NoEarlier, Overflow, Spent, NoTarget}
+use Rattle.conflict_core.specs.declared.found.Found.TheVariants as found
 use Rattle.session_undo.specs.declared.reply.Refusal.{Refusal}
 use Rattle.session_undo.specs.declared.reply.Refusal.TheVariants as refusal
 use Rattle.session_undo.specs.declared.reply.Reply as answer
@@ -23,6 +24,8 @@ accepted_count good.Frames = refl
 accepted_count good.Rows = refl
 accepted_count (good.Certificate levels) = refl
 accepted_count (good.Diagnosed d) = refl
+accepted_count (good.Why found.Solvable) = refl
+accepted_count (good.Why (found.Core rows by without)) = refl
 
 -- a refusal that is told is one that F allows, and counts 1
 refused_count : (F : Reply → Type 0) (r : Refusal) → (r ≡ refusal.OutOfMemory → ⊥) → MayRefuse F r → (reply : Reply) × F reply × (1 ≡ refusal_count reply)

@@ -7,17 +7,18 @@ use Rattle.session_undo.specs.declared.reply.Refusal.{Refusal}
 use Rattle.session_undo.specs.declared.reply.Reply as answer
 use Rattle.session_undo.specs.declared.reply.Reply.TheVariants as good
 use Rattle.session_undo.specs.State.{State}
-use Rattle.session_undo.specs.Machine.{MeaningStep}
-use Rattle.script_text.specs.Meaning.{Meaning}
+use Rattle.session_undo.specs.Explaining.{SaidStep}
+use Rattle.script_text.specs.Meaning.{Said}
 use Rattle.script_text.specs.Grammar.{Line, words_of}
 use Rattle.layout_cli.specs.Machine.{LeadsTo, Step, Talking}
-use Rattle.session_undo.specs.Replies.{Reply, IsChange, accepted, Nothing, Done, Frames, Rows, Certificate, Diagnosed}
+use Rattle.session_undo.specs.Replies.{Reply, IsChange, accepted, Nothing, Done, Frames, Rows, Certificate, Core, Diagnosed, Solvable}
+use Rattle.conflict_core.specs.declared.found.Found.TheVariants as found
 use Rattle.diagnosis.specs.Diagnoses.{findings_of}
 use Rattle.layout_cli.proofs.BestRuns.{step-change, MayChange}
 
 -- a line that is read does what it says
-pub step-read : (old : State) (line : List ℕ) (m : Meaning) → length line ≤ 4096 → Line (words_of old.version) line m → (reply : Reply) (new : State) → MeaningStep old m reply new → Step old line reply new
-step-read old line m short reads reply new step = inr ((λ long. omega (arith, short, long)), inr (m, reads, step))
+pub step-read : (old : State) (line : List ℕ) (said : Said) → length line ≤ 4096 → Line (words_of old.version) line said → (reply : Reply) (new : State) → SaidStep old said reply new → Step old line reply new
+step-read old line said short reads reply new step = inr ((λ long. omega (arith, short, long)), inr (said, reads, step))
 
 -- ---- where no change was made
 
@@ -43,4 +44,6 @@ unchanged old new line (Ok good.Frames) same leads kept never = not-led old new 
 unchanged old new line (Ok good.Rows) same leads kept never = not-led old new line Rows refl same leads
 unchanged old new line (Ok (good.Certificate levels)) same leads kept never = not-led old new line (Certificate levels) refl same leads
 unchanged old new line (Ok (good.Diagnosed d)) same leads kept never = not-led old new line (Diagnosed (findings_of d)) refl same leads
+unchanged old new line (Ok (good.Why found.Solvable)) same leads kept never = not-led old new line Solvable refl same leads
+unchanged old new line (Ok (good.Why (found.Core rows by without))) same leads kept never = not-led old new line (Core rows.items by without.items) refl same leads
 unchanged old new line (Err stop) same leads kept never = kept

@@ -1,27 +1,30 @@
 -- The lines of the two versions: a line of version 1 is one of version 2, and the same are blank or comments.
-use Rattle.std.proofs.Common.{◌≡◌, ◌∙◌, ℕ, Bool, true, false, List, [], ◌∷◌, ◌++◌, length, pos, refl, ap, inl, inr, ◌⊎◌, true≢false}
+use Rattle.std.proofs.Common.{◌≡◌, ◌∙◌, ℕ, Bool, true, false, List, [], ◌∷◌, ◌++◌, length, map, pos, refl, ap, sym, subst, inl, inr, ◌⊎◌, true≢false}
 use Rattle.std.specs.Prelude.{codes, Option, None, Some}
 use Rattle.span_text.specs.Language.{Rel, End, Words}
 use Rattle.span_text.specs.Tokens.{Blanks, Name, Number, Tail}
 use Rattle.span_text.specs.Objects.{Meant}
 use Rattle.span_text.specs.Objects as object
-use Rattle.script_text.specs.Grammar.{Apart, Arguments, Line, Pull, Ranked, decimal, directions, first_words, new_words, words_of}
-use Rattle.script_text.specs.Meaning.{Meaning}
+use Rattle.script_text.specs.Grammar.{Apart, Arguments, Follows, Line, Pull, Ranked, command_word, decimal, directions, first_words, new_change_words, says_nothing, words_of}
+use Rattle.script_text.specs.Meaning.{Meaning, Said}
 use Rattle.script_text.specs.Meaning as mean
+use Rattle.script_text.specs.declared.words.FirstWord.{FirstWord}
+use Rattle.script_text.specs.declared.words.FirstWord.TheVariants as first
+use Rattle.script_text.specs.declared.words.Keyword.{Keyword}
 use Rattle.script_text.specs.declared.words.Keyword.TheVariants as key
 use Rattle.script_text.specs.declared.words.Version.{Version}
 use Rattle.script_text.specs.declared.words.Version.TheVariants as version
 
 -- ---- tables of words
 
--- a text of a table is one of a longer table
-longer : {K A : Type 0} (ws more : List (List ℕ × K)) (F : K → Rel A) (s : List ℕ) (v : A) → Words ws F s v → Words (ws ++ more) F s v
+-- a text of a table of commands is one of a longer table
+longer : {A : Type 0} (ws more : List (List ℕ × Keyword)) (F : FirstWord → Rel A) (s : List ℕ) (v : A) → Words (map command_word ws) F s v → Words (map command_word (ws ++ more)) F s v
 longer [] more F s v h = absurd h
 longer (w ∷ ws) more F s v (inl h) = inl h
 longer (w ∷ ws) more F s v (inr h) = inr (longer ws more F s v h)
 
--- a text of two tables is one of the first or of the second
-either_table : {K A : Type 0} (ws more : List (List ℕ × K)) (F : K → Rel A) (s : List ℕ) (v : A) → Words (ws ++ more) F s v → Words ws F s v ⊎ Words more F s v
+-- a text of two tables of commands is one of the first or of the second
+either_table : {A : Type 0} (ws more : List (List ℕ × Keyword)) (F : FirstWord → Rel A) (s : List ℕ) (v : A) → Words (map command_word (ws ++ more)) F s v → Words (map command_word ws) F s v ⊎ Words (map command_word more) F s v
 either_table [] more F s v h = inr h
 either_table (w ∷ ws) more F s v (inl h) = inl (inl h)
 either_table (w ∷ ws) more F s v (inr h) = elim (either_table ws more F s v h) [
@@ -97,28 +100,50 @@ size_never len = name_never mean.Nothing (λ n. Number (High n)) (λ n. number_n
 unsize_never : (len : ℕ) → Never mean.Nothing (Arguments len key.Unsize)
 unsize_never len = name_never mean.Nothing (λ n. End (mean.Unsize n)) (λ n. end_never (mean.Unsize n) refl)
 
+-- ---- what a line says
+
+abbrev meaning_of : Said → Meaning
+meaning_of (mean.Does m) = m
+meaning_of (mean.Why m) = m
+
+abbrev is_question : Said → Bool
+is_question (mean.Does m) = false
+is_question (mean.Why m) = true
+
+-- where no text of a command's arguments means nothing, none says nothing
+follows_never : (len : ℕ) (k : Keyword) → Never mean.Nothing (Arguments len k) → Never says_nothing (Follows len (first.Command k))
+follows_never len k no_such s (m, h, e) = no_such s (subst (Arguments len k s) (sym (ap meaning_of e)) h)
+
+-- a question isn't blank
+why_never : (len : ℕ) → Never says_nothing (Follows len first.Why)
+why_never len s (m, h, e) = true≢false (sym (ap is_question e))
+
+abbrev Behind : ℕ → FirstWord → Rel Said
+Behind len w = Apart (Follows len w)
+
 -- no new command is blank
-new_never : (len : ℕ) → Never mean.Nothing (Words new_words (λ k. Apart (Arguments len k)))
-unfolding new_words
-new_never len s (inl (t, is, h)) = apart_never mean.Nothing (Arguments len key.Direction) (direction_never len) t h
-new_never len s (inr (inl (t, is, h))) = apart_never mean.Nothing (Arguments len key.Size) (size_never len) t h
-new_never len s (inr (inr (inl (t, is, h)))) = apart_never mean.Nothing (Arguments len key.Unsize) (unsize_never len) t h
+new_never : (len : ℕ) → Never says_nothing (Words (map command_word new_change_words) (Behind len))
+unfolding new_change_words
+new_never len s (inl (t, is, h)) = apart_never says_nothing (Follows len (first.Command key.Direction)) (follows_never len key.Direction (direction_never len)) t h
+new_never len s (inr (inl (t, is, h))) = apart_never says_nothing (Follows len (first.Command key.Size)) (follows_never len key.Size (size_never len)) t h
+new_never len s (inr (inr (inl (t, is, h)))) = apart_never says_nothing (Follows len (first.Command key.Unsize)) (follows_never len key.Unsize (unsize_never len)) t h
 new_never len s (inr (inr (inr never))) = never
 
--- a line of version 1 means the same in each version
-pub line_later : (v : Version) (line : List ℕ) (m : Meaning) → Line (words_of version.One) line m → Line (words_of v) line m
+-- a line of version 1 says the same in each version
+pub line_later : (v : Version) (line : List ℕ) (said : Said) → Line (words_of version.One) line said → Line (words_of v) line said
 unfolding Line
-line_later version.One line m h = h
-line_later version.Two line m (x, t, is, spaces, start, inl comment) = (x, t, is, spaces, start, inl comment)
-line_later version.Two line m (x, t, is, spaces, start, inr (inl command)) = (x, t, is, spaces, start, inr (inl (longer first_words new_words _ t m command)))
-line_later version.Two line m (x, t, is, spaces, start, inr (inr blank)) = (x, t, is, spaces, start, inr (inr blank))
+line_later version.One line said h = h
+line_later version.Two line said (x, t, is, spaces, start, inl comment) = (x, t, is, spaces, start, inl comment)
+line_later version.Two line said (x, t, is, spaces, start, inr (inl command)) = (x, t, is, spaces, start, inr (inl (inr (longer first_words new_change_words (Behind (length line)) t said command))))
+line_later version.Two line said (x, t, is, spaces, start, inr (inr blank)) = (x, t, is, spaces, start, inr (inr blank))
 
 -- a line that is blank or a comment in one version is so in version 1
-pub blank_before : (v : Version) (line : List ℕ) → Line (words_of v) line mean.Nothing → Line (words_of version.One) line mean.Nothing
+pub blank_before : (v : Version) (line : List ℕ) → Line (words_of v) line says_nothing → Line (words_of version.One) line says_nothing
 unfolding Line
 blank_before version.One line h = h
 blank_before version.Two line (x, t, is, spaces, start, inl comment) = (x, t, is, spaces, start, inl comment)
-blank_before version.Two line (x, t, is, spaces, start, inr (inl command)) = elim (either_table first_words new_words _ t mean.Nothing command) [
+blank_before version.Two line (x, t, is, spaces, start, inr (inl (inl (u, word, h)))) = absurd (apart_never says_nothing (Follows (length line) first.Why) (why_never (length line)) u h)
+blank_before version.Two line (x, t, is, spaces, start, inr (inl (inr command))) = elim (either_table first_words new_change_words (Behind (length line)) t says_nothing command) [
   | inl old ↦ (x, t, is, spaces, start, inr (inl old))
   | inr new ↦ absurd (new_never (length line) t new)
 ]

@@ -1,4 +1,5 @@
 pub mod Machine
+pub mod Hosted
 pub mod Words
 pub mod Outputs
 pub mod Making

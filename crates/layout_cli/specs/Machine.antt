@@ -5,21 +5,21 @@ use Rattle.std.specs.Str.Lines.{lines}
 use Rattle.edge_io.specs.declared.feed.TheConstants.{LINE_LIMIT}
 use Rattle.span_text.specs.Language.{LeavesAt}
 use Rattle.name_tables.specs.declared.stops.LimitWord.TheVariants as word
-use Rattle.script_text.specs.Grammar.{Line, VersionLine, words_of}
-use Rattle.script_text.specs.Meaning.{Meaning}
-use Rattle.script_text.specs.Meaning as mean
+use Rattle.script_text.specs.Grammar.{Line, VersionLine, says_nothing, words_of}
+use Rattle.script_text.specs.Meaning.{Said}
 use Rattle.script_text.specs.declared.words.Version.{Version}
 use Rattle.script_text.specs.declared.words.Version.TheVariants as version
-use Rattle.session_undo.specs.State.{State, IsFirstOf}
+use Rattle.session_undo.specs.State.{State, IsFirstOf, IsFirstWith}
 use Rattle.session_undo.specs.Replies.{Done, Reply, Outside, Limit, is_accepted}
-use Rattle.session_undo.specs.Machine.{Unless, Keeps, MeaningStep}
+use Rattle.session_undo.specs.Machine.{Unless, Keeps}
+use Rattle.session_undo.specs.Explaining.{SaidStep}
 use Rattle.reply_texts.specs.Replies.{line_of, text_of}
 
 -- the line leaves the grammar of the session's version there, or it is in it and does what it says
 abbrev pub GrammarStep : State → List ℕ → Reply → State → Type 0
 GrammarStep old line reply new =
     ((at : ℕ) × LeavesAt (Line (words_of old.version)) line at × Keeps (Outside at) old reply new)
-    ⊎ ((meaning : Meaning) × Line (words_of old.version) line meaning × MeaningStep old meaning reply new)
+    ⊎ ((said : Said) × Line (words_of old.version) line said × SaidStep old said reply new)
 
 -- From the old session the line may get this reply, and the session is the new one then.
 abbrev pub Step : State → List ℕ → Reply → State → Type 0
@@ -46,7 +46,7 @@ NewRun v lines text good = (first last : State) × IsFirstOf v first × Run firs
 
 -- the line is short enough, and blank or a comment
 abbrev pub IsSilent : List ℕ → Type 0
-IsSilent line = (length line ≤ LINE_LIMIT) × Line (words_of version.One) line mean.Nothing
+IsSilent line = (length line ≤ LINE_LIMIT) × Line (words_of version.One) line says_nothing
 
 -- the line is short enough, and says that the script is of version 2
 abbrev pub IsOpening : List ℕ → Type 0
@@ -81,10 +81,11 @@ pub record Talking : Type 0 where
 abbrev pub Opens : Talking → List ℕ → Type 0
 Opens old line = (old.begun ≡ false) × IsOpening line
 
--- What a line leads to: a new session of version 2 where it opens one, and a step otherwise. Whether a line
--- with a reply came isn't said yet.
+-- What a line leads to: a new session of version 2 with the same limits where it opens one, and a step
+-- otherwise. Whether a line with a reply came isn't said yet.
 abbrev pub LeadsTo : Talking → List ℕ → Reply → State → Type 0
-LeadsTo old line reply new = (Opens old line × (reply ≡ Done) × IsFirstOf version.Two new)
+LeadsTo old line reply new =
+    (Opens old line × (reply ≡ Done) × IsFirstWith old.state.limits version.Two new)
     ⊎ ((Opens old line → ⊥) × Step old.state line reply new)
 
 -- where no line with a reply came before: this one gets none either, or it says the version, or gets the
@@ -92,8 +93,8 @@ LeadsTo old line reply new = (Opens old line × (reply ≡ Done) × IsFirstOf ve
 abbrev pub Begins : State → List ℕ → List ℕ → Bool → Talking → Type 0
 Begins old line text good new =
     (IsSilent line × (text ≡ []) × (good ≡ true) × (new ≡ record { state = old; begun = false }))
-    ⊎ (IsOpening line × (text ≡ version_reply) × (good ≡ true) × IsFirstOf version.Two new.state
-    × (new.begun ≡ true))
+    ⊎ (IsOpening line × (text ≡ version_reply) × (good ≡ true)
+    × IsFirstWith old.limits version.Two new.state × (new.begun ≡ true))
     ⊎ ((IsSilent line → ⊥) × (IsOpening line → ⊥) × Answers old line text good new.state
     × (new.begun ≡ true))
 

@@ -30,7 +30,7 @@ pub(crate) fn step(alloc: Global, session: &mut Session, line: &[u8]) -> Result<
         return Err(Refusal::Limit(LimitWord::Line));
     }
     match read_line_in(alloc, line, session.version()) {
-        Ok(command) => session.apply(command),
+        Ok(reading) => session.apply(reading),
         Err(Stop::Refused(SyntaxAt(at))) => Err(Refusal::Syntax(at)),
         Err(Stop::OutOfMemory) => Err(Refusal::OutOfMemory),
     }

@@ -1,6 +1,6 @@
-//! The program's run: a script of lines in, their replies out; a problem and a claim in, and the checker's
-//! verdict out; or a seed and a number of views in the words, and what a run of the script that is drawn
-//! from them comes to out.
+//! The program's run: a script of lines in, their replies out, of one scene or of many, each behind a name; a
+//! problem and a claim in, and the checker's verdict out; or a seed and a number of views in the words, and
+//! what a run of the script that is drawn from them comes to out.
 //!
 //! A script makes views, metrics and constraints, changes the size of the window, takes changes back, and
 //! asks for the frames of the views, for the rows, and for the multipliers that show the values to be best.
@@ -21,11 +21,13 @@
 //!
 //! In reading order: `program` ([`run`]). For `run`: `talk` (what answers a script's lines), `responder`
 //! ([`Responder`]: a session, and the version that the first line may say) and `answers` (one line, whose
-//! reply `reply_texts` writes). For `make`: `making`, with its `output`. `mode` (how much is
-//! read), `laws`. The mode `check` is `claim_check`'s.
+//! reply `reply_texts` writes). For `host`: `hosting` (a responder for each name, over `scene_host`). For
+//! `make`: `making`, with its `output`. `mode` (how much is read), `laws`. The mode `check` is that of
+//! `claim_check`.
 #![tactic(auto)]
 
 mod answers;
+mod hosting;
 mod laws;
 mod making;
 mod mode;
@@ -35,8 +37,10 @@ mod responder;
 mod talk;
 
 pub use claim_check::CHECK_LIMIT;
+pub use hosting::{HOSTED_LINES, HOSTED_ROWS, HOSTED_UNDO, HOSTED_VIEWS};
 pub use laws::{
-    best_values_are_unique, counted_runs_are_runs, first_values_are_best, runs_lead_to_best_values,
+    best_values_are_unique, counted_runs_are_runs, first_values_are_best,
+    hosted_sessions_run_alone, runs_lead_to_best_values,
 };
 pub use line_by_line::INPUT_LIMIT;
 pub use mode::constants_are_as_said;

@@ -4,11 +4,12 @@ ghost use Rattle.std.specs.Io.KnownBytes.{Appends};
 ghost use Rattle.edge_io.specs.Cause.{Rose};
 ghost use Rattle.edge_io.specs.Outside.{HasFront, LeadsOutside, counts, outside};
 ghost use Rattle.layout_cli.specs.Ends.{AfterReadFault, AfterTooLong, HasOutput, IsBrokenOff, IsCutShort};
-ghost use Rattle.layout_cli.specs.Ends.{IsEndOf, IsRunCounted, IsTooLong};
+ghost use Rattle.layout_cli.specs.Ends.{IsEndOf, IsRunCounted, IsTooLong, script_status};
 ghost use Rattle.layout_cli.specs.Words.{NameMode, Pulls, limit_of, usage_line};
 ghost use Rattle.program_words.specs.Words.{AreOther};
-ghost use Rattle.program_words.specs.declared.mode.Mode.TheVariants.{Run, Check, Make};
+ghost use Rattle.program_words.specs.declared.mode.Mode.TheVariants.{Run, Check, Host, Make};
 
+use crate::hosting::host_over;
 use crate::making::make_and_run;
 use crate::output::Output;
 use crate::talk::talk_over;
@@ -38,9 +39,10 @@ pub enum Status {
     TooLong,
 }
 
-/// Answers each line of a script before it reads the next one; or reads a problem and a claim to their end
-/// and writes the checker's verdict; or pulls nothing, and writes what a run of the script comes to that is
-/// drawn from a seed. `words` are the program's words after its name, and name the mode.
+/// Answers each line of a script, of one scene or of many, before it reads the next one; or reads a problem
+/// and a claim to their end and writes the checker's verdict; or pulls nothing, and writes what a run of the
+/// script comes to that is drawn from a seed. `words` are the program's words after its name, and name the
+/// mode.
 ///
 /// The first event that ends the run decides the status.
 pub fn run<S: Source, K: Sink>(
@@ -98,7 +100,22 @@ pub fn run<S: Source, K: Sink>(
     match mode {
         Mode::Run => run_script(alloc, source, sink),
         Mode::Check => run_check(alloc, source, sink),
+        Mode::Host => run_host(alloc, source, sink),
         Mode::Make { seed, views } => run_made(alloc, seed, views, sink),
+    }
+}
+
+// How a run ends whose script was answered so.
+fn script_status(answered: Result<bool, ScriptStop>) -> Status
+    ensures { result ≡ script_status answered }
+{
+    match answered {
+        Ok(true) => Status::Done,
+        Ok(false) => Status::Refused,
+        Err(ScriptStop::ReadFault) => Status::ReadFault,
+        Err(ScriptStop::WriteFault) => Status::WriteFault,
+        Err(ScriptStop::TooLong) => Status::TooLong,
+        Err(ScriptStop::OutOfMemory) => Status::OutOfMemory,
     }
 }
 
@@ -109,14 +126,17 @@ fn run_script<S: Source, K: Sink>(alloc: Global, source: &mut S, sink: &mut K) -
     ensures ends { LeadsOutside S.left S.faults K.held K.faults (source.old, sink.old) (source.new, sink.new)
         (λ old new. IsEndOf Run old new result) }
 {
-    match talk_over(alloc, source, sink) {
-        Ok(true) => Status::Done,
-        Ok(false) => Status::Refused,
-        Err(ScriptStop::ReadFault) => Status::ReadFault,
-        Err(ScriptStop::WriteFault) => Status::WriteFault,
-        Err(ScriptStop::TooLong) => Status::TooLong,
-        Err(ScriptStop::OutOfMemory) => Status::OutOfMemory,
-    }
+    script_status(talk_over(alloc, source, sink))
+}
+
+// Answers a script for many scenes line by line.
+fn run_host<S: Source, K: Sink>(alloc: Global, source: &mut S, sink: &mut K) -> Status
+    ensures counted { IsRunCounted Host result (counts S.pulls S.faults K.faults (source.old, sink.old))
+        (counts S.pulls S.faults K.faults (source.new, sink.new)) }
+    ensures ends { LeadsOutside S.left S.faults K.held K.faults (source.old, sink.old) (source.new, sink.new)
+        (λ old new. IsEndOf Host old new result) }
+{
+    script_status(host_over(alloc, source, sink))
 }
 
 // Reads a problem and a claim, and puts the checker's verdict.
@@ -178,7 +198,10 @@ fn put_usage<K: Sink>(sink: &mut K) -> Status
     ensures front { result ≡ Status.WriteFault → HasFront (K.held sink.old) (K.held sink.new) usage_line }
     ensures unfailed { (result ≡ Status.WriteFault) ⊎ (K.faults sink.new ≡ K.faults sink.old) }
 {
-    match put_all(sink, b"usage: layout run | check | make SEED VIEWS\n") {
+    match put_all(
+        sink,
+        b"usage: layout run | check | make SEED VIEWS | host\n",
+    ) {
         Ok(()) => Status::Usage,
         Err(_) => Status::WriteFault,
     }

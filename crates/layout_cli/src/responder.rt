@@ -1,13 +1,17 @@
 // A session that answers lines, the first of which may say the version.
-ghost use Rattle.std.specs.Prelude.{◌≡◌, ◌≤◌, ◌++◌, ℕ, List, not, true, false, length, IfOk, IfErr};
-ghost use Rattle.std.specs.Prelude.{IsErrOf, OnErr};
+ghost use Rattle.std.specs.Prelude.{◌≡◌, ◌≤◌, ◌+◌, ◌++◌, [], ℕ, List, not, true, false, length, IfOk, IfErr};
+ghost use Rattle.std.specs.Prelude.{IsErrOf, IsOk, OnErr, OnOk, vec_capacity, vec_len};
 ghost use Rattle.edge_io.specs.declared.feed.TheConstants.{LINE_LIMIT};
 ghost use Rattle.frac_core.specs.declared.memory.Stop.TheVariants.{OutOfMemory as NoMemory};
 ghost use Rattle.line_by_line.specs.Answers.{HasStopCause, sink_failed};
 ghost use Rattle.layout_cli.specs.Machine.{IsOpening, LeadsTo, Talks};
 ghost use Rattle.layout_cli.specs.Told.{IsReplied, IsRepliedInPart};
-ghost use Rattle.session_undo.specs.Replies.{accepted, MayRefuse};
-ghost use Rattle.session_undo.specs.State.{IsFirst, IsFirstOf};
+ghost use Rattle.reply_texts.specs.Replies.{text_of};
+ghost use Rattle.reply_texts.specs.declared.reply.TheConstants.{OK_LENGTH};
+ghost use Rattle.scene_host.specs.Marks.{marked};
+ghost use Rattle.session_undo.specs.Replies.{accepted, IsChange, MayRefuse, Tells};
+ghost use Rattle.session_undo.specs.Kept.{AreWithin, limits_of};
+ghost use Rattle.session_undo.specs.State.{IsFirst, IsFirstWith};
 ghost use Rattle.script_text.specs.declared.words.Version.TheVariants as version;
 ghost use Rattle.session_undo.specs.declared.reply.Reply.TheVariants as good;
 ghost use Rattle.std.specs.declared.result.Result.TheVariants.{Ok as Accepted};
@@ -17,8 +21,9 @@ use edge_io::{LINE_LIMIT, Sink};
 use frac_core::OutOfMemory;
 use line_by_line::AnswerStop;
 use reply_texts::{OK_LENGTH, reply_text};
+use scene_host::push_marked;
 use script_text::{Version, is_version_line};
-use session_undo::{Refusal, Reply, Session};
+use session_undo::{Limits, Refusal, Reply, Session};
 use std::alloc::Global;
 use std::marker::Model;
 
@@ -28,6 +33,27 @@ fn is_opening(line: &[u8]) -> bool
     ensures no { result ≡ false → IsOpening line.now → ⊥ }
 {
     line.len() <= LINE_LIMIT && is_version_line(line)
+}
+
+// Appends the lines of a reply with a mark in front of each, whole or not at all. `text` is room for them.
+// Where a change was made and there is room for `ok`, no memory is wanting.
+fn put_behind(
+    session: &Session,
+    reply: &Result<Reply, Refusal>,
+    mark: &[u8],
+    text: &mut Vec<u8>,
+    out: &mut Vec<u8>,
+) -> Result<(), OutOfMemory>
+    requires empty { text.old.items ≡ [] }
+    requires room { OK_LENGTH ≤ vec_capacity text.old }
+    ensures put { OnOk result (Tells (λ told. out.new.items
+        ≡ out.old.items ++ marked mark.now (text_of session.now.scene told)) reply.now) }
+    ensures unchanged { OnErr result (out.new.items ≡ out.old.items) }
+    ensures room { IsChange reply.now → vec_len out.old + (length mark.now + OK_LENGTH) ≤ vec_capacity out.old
+        → IsOk result }
+{
+    reply_text(session, reply, text)?;
+    push_marked(out, mark, text)
 }
 
 // Whether nothing is said to a line.
@@ -69,6 +95,20 @@ impl Responder {
         })
     }
 
+    /// The same with other limits.
+    pub fn with(alloc: Global, limits: Limits) -> Result<Responder, OutOfMemory>
+        requires { AreWithin (limits_of limits) }
+        ensures first { IfOk result
+            (λ responder. IsFirstWith (limits_of limits) version.One responder.state) }
+        ensures unbegun { IfOk result (λ responder. responder.begun ≡ false) }
+    {
+        Ok(Responder {
+            session: Session::with(alloc, Version::One, limits)?,
+            begun: false,
+            alloc,
+        })
+    }
+
     /// The session that the lines led to.
     pub(crate) fn session(&self) -> &Session
         ensures { result.now ≡ self.now.state }
@@ -76,13 +116,13 @@ impl Responder {
         &self.session
     }
 
-    // A new session of version 2 in place of the one that there is.
+    // A new session of version 2 with the same limits in place of the one that there is.
     fn open(&mut self) -> Result<(), OutOfMemory>
-        ensures first { IfOk result (λ _. IsFirstOf version.Two self.new.state) }
+        ensures first { IfOk result (λ _. IsFirstWith self.old.state.limits version.Two self.new.state) }
         ensures begun { self.new.begun ≡ self.old.begun }
         ensures same { OnErr result (self.new ≡ self.old) }
     {
-        self.session = Session::with_version(self.alloc, Version::Two)?;
+        self.session = Session::with(self.alloc, Version::Two, self.session.limits())?;
         Ok(())
     }
 
@@ -124,6 +164,30 @@ impl Responder {
         out.reserve(OK_LENGTH)?;
         let reply = self.step(line);
         reply_text(&self.session, &reply, out)?;
+        self.begin(&reply);
+        Ok(reply.is_err())
+    }
+
+    /// Answers a line: appends the lines of its reply with a mark in front of each, and says whether that is
+    /// a refusal. After want of memory all is as before. The room for `ok` behind the mark is there before a
+    /// change is made.
+    pub fn answer_behind(
+        &mut self,
+        line: &[u8],
+        mark: &[u8],
+        out: &mut Vec<u8>,
+    ) -> Result<bool, OutOfMemory>
+        requires { length line.now ≤ LINE_LIMIT }
+        ensures told { IfOk result (λ refused. (text : List ℕ)
+            × Talks self.old line.now text (not refused) self.new
+            × (out.new.items ≡ out.old.items ++ marked mark.now text)) }
+        ensures same { OnErr result (self.new ≡ self.old) }
+        ensures unchanged { OnErr result (out.new.items ≡ out.old.items) }
+    {
+        let mut text = Vec::with_capacity(self.alloc, OK_LENGTH)?;
+        out.reserve(mark.len() + OK_LENGTH)?;
+        let reply = self.step(line);
+        put_behind(&self.session, &reply, mark, &mut text, out)?;
         self.begin(&reply);
         Ok(reply.is_err())
     }

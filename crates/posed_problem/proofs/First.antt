@@ -16,7 +16,7 @@ use Rattle.session_undo.specs.State.{first_state}
 use Rattle.posed_problem.specs.Definite.{IsDefinite, IsDefiniteItem, IsDefiniteState}
 use Rattle.posed_problem.specs.Laws.{FirstIsDefinite, SizesArePosed, sized_window}
 
-first-scene : (corner : List Mark) → IsDefinite (first_scene corner)
+pub first-scene : (corner : List Mark) → IsDefinite (first_scene corner)
 first-scene corner = record {
   metrics = All-nil (λ (f : Fraction). 0 < f.den);
   held = All-cons IsDefiniteItem OfWindow [] tt (All-nil IsDefiniteItem);

@@ -10,3 +10,5 @@ pub mod OneDraft
 pub mod Posed
 pub mod Steps
 pub mod First
+pub mod Questions
+pub mod Windows

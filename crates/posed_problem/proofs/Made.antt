@@ -1,5 +1,5 @@
 -- The draft that a command makes, and that a step is refused or ends there.
-use Rattle.std.proofs.Common.{◌≡◌, ◌∙◌, ◌⊎◌, inl, inr, ℕ, false, List, Option, None, Some, refl, ap}
+use Rattle.std.proofs.Common.{◌≡◌, ◌∙◌, ◌⊎◌, inl, inr, ℕ, Bool, true, false, List, Option, None, Some, refl, ap}
 use Rattle.frac_core.specs.Fraction.{Fraction}
 use Rattle.span_text.specs.Objects.{Meant}
 use Rattle.view_tree.specs.Drops.{AreGoing}
@@ -28,7 +28,7 @@ use Rattle.held_items.specs.declared.item.intrinsic.IntrinsicSize.{IntrinsicSize
 use Rattle.scenes.specs.Leaving.{without_group, without_intrinsic, without_suggestion, without_views}
 use Rattle.scenes.specs.Scene.{Scene, with_branch, with_direction, with_intrinsic, with_line, with_metric, with_preferred, with_suggested, with_suggestion, with_view, with_window}
 use Rattle.session_undo.specs.Machine.{AddsBranch, AddsLine, AddsTree, AddsView, DropsView, ReleasesOf, Sizes, SizesFor, Suggests, SuggestsFor, Tried, TriedDrop, TriedLine, TriedMetric, TriedRelease, TriedRemove, TriedSize, TriedSuggest, TriedTree, TriedUnsize, TriedView, TriedWindow, Unless, UnlessFar, UnlessLarge, UnsizesOf, hugging, intrinsic_at, parent_name, resisting}
-use Rattle.session_undo.specs.Replies.{Kind, Limit, Outside, Reply, Taken, Unknown, is_accepted}
+use Rattle.session_undo.specs.Replies.{Kind, Limit, NoEarlier, Outside, Reply, Taken, Unknown}
 use Rattle.session_undo.specs.State.{State}
 
 -- ---- drafts
@@ -66,6 +66,16 @@ Makes old _ d = ⊥
 
 -- ---- what a command comes to
 
+-- the reply tells a cause
+abbrev pub is_cause : Reply → Bool
+is_cause (Outside at) = true
+is_cause (Unknown name) = true
+is_cause (Taken name) = true
+is_cause (Limit limit) = true
+is_cause (Kind wrong) = true
+is_cause NoEarlier = true
+is_cause _ = false
+
 -- the command makes a draft
 abbrev pub IsDrafting : Meaning → Type 0
 IsDrafting mean.Nothing = ⊥
@@ -78,21 +88,21 @@ IsDrafting mean.Certify = ⊥
 IsDrafting _ = Unit {0}
 
 module _ (old : State) (E : Scene → Reply → State → Type 0) (r : Reply) (s : State) where
-  -- the reply is a refusal, and there is no change
+  -- the reply tells a cause, and there is no change
   abbrev pub Refuses : Type 0
-  Refuses = (is_accepted r ≡ false) × (s ≡ old)
+  Refuses = (is_cause r ≡ true) × (s ≡ old)
 
   -- that, or what comes of a draft of this kind
   abbrev pub Comes : (Scene → Type 0) → Type 0
   Comes Is = Refuses ⊎ ((d : Scene) × Is d × E d r s)
 
   -- past a cause
-  past : {Fact N A : Type 0} {Is : Scene → Type 0} (refusal : Reply) → is_accepted refusal ≡ false → (A → Comes Is) → (Fact × (r ≡ refusal) × (s ≡ old)) ⊎ (N × A) → Comes Is
-  past refusal bad f (inl x) = inl (ap is_accepted x.1 ∙ bad, x.2)
+  past : {Fact N A : Type 0} {Is : Scene → Type 0} (refusal : Reply) → is_cause refusal ≡ true → (A → Comes Is) → (Fact × (r ≡ refusal) × (s ≡ old)) ⊎ (N × A) → Comes Is
+  past refusal bad f (inl x) = inl (ap is_cause x.1 ∙ bad, x.2)
   past refusal bad f (inr x) = f x.1
 
-  past-any : {C N A : Type 0} {IsCause : C → Type 0} {Is : Scene → Type 0} (refusal : C → Reply) → ((c : C) → is_accepted (refusal c) ≡ false) → (A → Comes Is) → ((c : C) × IsCause c × (r ≡ refusal c) × (s ≡ old)) ⊎ (N × A) → Comes Is
-  past-any refusal bad f (inl x) = inl (ap is_accepted x.2 ∙ bad x.0, x.3)
+  past-any : {C N A : Type 0} {IsCause : C → Type 0} {Is : Scene → Type 0} (refusal : C → Reply) → ((c : C) → is_cause (refusal c) ≡ true) → (A → Comes Is) → ((c : C) × IsCause c × (r ≡ refusal c) × (s ≡ old)) ⊎ (N × A) → Comes Is
+  past-any refusal bad f (inl x) = inl (ap is_cause x.2 ∙ bad x.0, x.3)
   past-any refusal bad f (inr x) = f x.1
 
   -- the same of drafts of another kind
@@ -125,7 +135,7 @@ module _ (old : State) (E : Scene → Reply → State → Type 0) (r : Reply) (s
       past (Unknown name) refl (past (Kind kind.Window) refl (λ (x : DropsView old name E r s). inr (without_views old.scene x.1, (x.0, x.1, x.2, x.3, refl), x.4)))
 
   come-far : (draft : Scene) → UnlessFar old draft (E draft) r s → Comes (λ e. e ≡ draft)
-  come-far draft (inl x) = inl (ap is_accepted x.1, x.2)
+  come-far draft (inl x) = inl (ap is_cause x.1, x.2)
   come-far draft (inr x) = past (Limit word.Constant) refl (ends draft) x.1.2
 
   come-metric : (name : List ℕ) (value : Fraction) → TriedMetric old name value E r s → Comes (Makes old (mean.Metric name value))
@@ -147,7 +157,7 @@ module _ (old : State) (E : Scene → Reply → State → Type 0) (r : Reply) (s
   -- past a constant that isn't small
   come-large : {Is : Scene → Type 0} (attr : AttrWord) (value : Fraction) (F : Fraction → Reply → State → Type 0)
       → ((c : Fraction) → IsConstant (scale_of attr) (negated value) c → F c r s → Comes Is) → UnlessLarge old attr value F r s → Comes Is
-  come-large attr value F f (inl x) = inl (ap is_accepted x.1, x.2)
+  come-large attr value F f (inl x) = inl (ap is_cause x.1, x.2)
   come-large attr value F f (inr x) = f x.1.0 x.1.1 x.1.2
 
   abbrev SuggestedDraft : ℕ → AttrWord → Fraction → ℕ → Option Suggestion → Scene → Type 0

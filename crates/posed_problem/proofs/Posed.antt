@@ -23,11 +23,11 @@ one-problem draft p q definite is also =
     (one-rows draft.metrics draft.held p.rows q.rows definite.metrics definite.held is.0 also.0) (is.1 ∙ sym also.1)
 
 -- a problem that is posed is that of a draft
-draft-of : (old : State) (m : Meaning) (p : Problem) → Comes old (PosesDraft p) Done old (Makes old m) → (d : Scene) × Makes old m d × IsProblemOf d p
-draft-of old m p (inl bad) = absurd (true≢false bad.0)
+pub draft-of : (old : State) (m : Meaning) (p : Problem) → Comes old (PosesDraft p) Done old (Makes old m) → (d : Scene) × Makes old m d × IsProblemOf d p
+draft-of old m p (inl bad) = absurd (true≢false (sym bad.0))
 draft-of old m p (inr x) = x
 
-same-drafts : (old : State) (m : Meaning) (p q : Problem) → IsDefinite old.scene → IsDefiniteMeaning m → (d : Scene) × Makes old m d × IsProblemOf d p → (d : Scene) × Makes old m d × IsProblemOf d q → p ≡ q
+pub same-drafts : (old : State) (m : Meaning) (p q : Problem) → IsDefinite old.scene → IsDefiniteMeaning m → (d : Scene) × Makes old m d × IsProblemOf d p → (d : Scene) × Makes old m d × IsProblemOf d q → p ≡ q
 same-drafts old m p q definite ok (d, made, is) (e, made2, also) =
     one-problem e p q (draft-definite old definite m e ok made2) (subst (λ (x : Scene). IsProblemOf x p) (one-draft old definite m d e ok made made2) is) also
 

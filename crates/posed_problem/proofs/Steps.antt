@@ -5,7 +5,6 @@ use Rattle.script_text.specs.Meaning.{Meaning}
 use Rattle.script_text.specs.Meaning as mean
 use Rattle.layout_solver.specs.declared.removing.RemoveStop.{RemoveStop}
 use Rattle.layout_solver.specs.declared.removing.RemoveStop.TheVariants as removal
-use Rattle.held_items.specs.declared.limits.TheConstants.{EARLIER}
 use Rattle.scenes.specs.Scene.{Becomes, Scene, with_earlier}
 use Rattle.session_undo.specs.Machine.{Diagnoses, Ends, Keeps, LeavesFree, MeaningStep, Solves, SolvesFree, Stands, TellsStill}
 use Rattle.session_undo.specs.Replies.{Reply}
@@ -28,10 +27,10 @@ module _ (old : State) (is : IsDefiniteState old) where
   keep s same = subst IsDefiniteState (sym same) is
 
   -- and of a scene more
-  go-on : (s : State) (scene : Scene) → s ≡ record old { scene = scene; earlier = with_earlier old.scene old.earlier } → IsDefinite scene → IsDefiniteState s
+  go-on : (s : State) (scene : Scene) → s ≡ record old { scene = scene; earlier = with_earlier old.limits.undo old.scene old.earlier } → IsDefinite scene → IsDefiniteState s
   go-on s scene same definite =
       subst IsDefiniteState (sym same)
-      (record { scene = definite; earlier = All-take IsDefinite EARLIER (old.scene ∷ old.earlier) (All-cons IsDefinite old.scene old.earlier is.scene is.earlier) })
+      (record { scene = definite; earlier = All-take IsDefinite old.limits.undo (old.scene ∷ old.earlier) (All-cons IsDefinite old.scene old.earlier is.scene is.earlier) })
 
   solves-free : (d : Scene) (r : Reply) (s : State) → IsDefinite d → SolvesFree old d r s → IsDefiniteState s
   solves-free d r s definite (inl h) = go-on s s.scene h.kept (become-definite d s.scene h.solved.becomes definite)

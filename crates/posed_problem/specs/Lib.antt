@@ -1,2 +1,3 @@
 pub mod Definite
 pub mod Laws
+pub mod Questions

@@ -1,6 +1,8 @@
 // The laws of what a command poses, each the contract of a function that does nothing.
 ghost use Rattle.posed_problem.specs.Laws.{FirstIsDefinite, OneProblemIsPosed, SizesArePosed};
 ghost use Rattle.posed_problem.specs.Laws.{StepsStayDefinite};
+ghost use Rattle.posed_problem.specs.Questions.{CoreIsNotAccepted, CoresArePosed, SizesAreExplained};
+ghost use Rattle.posed_problem.specs.Questions.{SolvableIsNotRefused};
 
 /// Two problems that a command poses are one, where no denominator is 0 and each view is newer than its
 /// parent.
@@ -21,4 +23,22 @@ pub fn steps_stay_definite()
 /// In a new session a size of the window poses the problem of the window's four rows and the two of its size.
 pub fn sizes_are_posed()
     ensures { SizesArePosed }
+{}
+
+/// What is told as a core of a command is one, of the problem that it poses.
+pub fn cores_are_posed()
+    ensures { CoresArePosed }
+{}
+
+/// Where it is told that a command would not clash, it is not refused for a conflict; where a core is told,
+/// it is not accepted.
+pub fn questions_foretell()
+    ensures solvable { SolvableIsNotRefused }
+    ensures core { CoreIsNotAccepted }
+{}
+
+/// In a new session it is told of a width of 1 that there is no conflict, and of a width of -1 that it
+/// clashes with the window's own row.
+pub fn sizes_are_explained()
+    ensures { SizesAreExplained }
 {}

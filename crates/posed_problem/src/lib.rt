@@ -5,6 +5,8 @@
 //! parent, and for commands that give no such number. A new session is one, and so is the session after each
 //! line.
 //!
+//! So what is told to the question why a command would clash foretells what comes of the command.
+//!
 //! Each law is the contract of a function that does nothing; its statement stands in `specs/` under the
 //! function's name.
 //!
@@ -15,9 +17,12 @@
 //! ```
 //!
 //! To read: `specs/Laws.antt`, beginning with [`one_problem_is_posed`]; `specs/Definite.antt` says which
-//! sessions and which commands are meant.
+//! sessions and which commands are meant, and `specs/Questions.antt` what is said of questions.
 #![tactic(auto)]
 
 mod laws;
 
-pub use laws::{first_is_definite, one_problem_is_posed, sizes_are_posed, steps_stay_definite};
+pub use laws::{
+    cores_are_posed, first_is_definite, one_problem_is_posed, questions_foretell,
+    sizes_are_explained, sizes_are_posed, steps_stay_definite,
+};

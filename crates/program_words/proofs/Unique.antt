@@ -3,7 +3,7 @@ use Rattle.std.proofs.Common.{◌≡◌, ◌∙◌, ℕ, refl, sym, ap₂, subst
 use Rattle.std.specs.Prelude.{unwrap_or}
 use Rattle.clap.specs.Words.{Text, all_of, matches_of}
 use Rattle.program_words.specs.declared.mode.Mode.{Mode}
-use Rattle.program_words.specs.declared.mode.Mode.TheVariants.{Run, Check, Make}
+use Rattle.program_words.specs.declared.mode.Mode.TheVariants.{Run, Check, Host, Make}
 use Rattle.program_words.specs.Words.{AskFor, Says, program}
 
 first_run : (t : Text) → t ≡ codes "run" → slice_index t 0 ≡ 114
@@ -11,6 +11,9 @@ first_run t e = rw e refl
 
 first_check : (t : Text) → t ≡ codes "check" → slice_index t 0 ≡ 99
 first_check t e = rw e refl
+
+first_host : (t : Text) → t ≡ codes "host" → slice_index t 0 ≡ 104
+first_host t e = rw e refl
 
 first_make : (t : Text) → t ≡ codes "make" → slice_index t 0 ≡ 109
 first_make t e = rw e refl
@@ -24,12 +27,19 @@ same_second a b s t ns is other = let same : a ∷ b ∷ [] ≡ s ∷ t ∷ [] =
 says_one : (name : Text) (ns : List Text) (m n : Mode) → Says name ns m → Says name ns n → m ≡ n
 says_one name ns Run Run a b = refl
 says_one name ns Run Check a b = absurd (omega (arith, first_run name a.0, first_check name b.0))
+says_one name ns Run Host a b = absurd (omega (arith, first_run name a.0, first_host name b.0))
 says_one name ns Run (Make x y) a b = absurd (omega (arith, first_run name a.0, first_make name b.0))
 says_one name ns Check Run a b = absurd (omega (arith, first_check name a.0, first_run name b.0))
 says_one name ns Check Check a b = refl
+says_one name ns Check Host a b = absurd (omega (arith, first_check name a.0, first_host name b.0))
 says_one name ns Check (Make x y) a b = absurd (omega (arith, first_check name a.0, first_make name b.0))
+says_one name ns Host Run a b = absurd (omega (arith, first_host name a.0, first_run name b.0))
+says_one name ns Host Check a b = absurd (omega (arith, first_host name a.0, first_check name b.0))
+says_one name ns Host Host a b = refl
+says_one name ns Host (Make x y) a b = absurd (omega (arith, first_host name a.0, first_make name b.0))
 says_one name ns (Make x y) Run a b = absurd (omega (arith, first_make name a.0, first_run name b.0))
 says_one name ns (Make x y) Check a b = absurd (omega (arith, first_make name a.0, first_check name b.0))
+says_one name ns (Make x y) Host a b = absurd (omega (arith, first_make name a.0, first_host name b.0))
 says_one name ns (Make x y) (Make z w) (a, s, v, are, seed, views) (b, t, u, others, other_seed, other_views) =
     let seeds : s ≡ t = same_first s v t u ns are others in
     let counts : v ≡ u = same_second s v t u ns are others in

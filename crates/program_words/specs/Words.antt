@@ -7,7 +7,7 @@ use Rattle.clap.specs.Words.{new_rule, with_rule}
 use Rattle.clap.specs.declared.builder.action.ArgAction.TheVariants.{Append}
 use Rattle.span_text.specs.Bytes.{minus}
 use Rattle.program_words.specs.declared.mode.Mode.{Mode}
-use Rattle.program_words.specs.declared.mode.Mode.TheVariants.{Run, Check, Make}
+use Rattle.program_words.specs.declared.mode.Mode.TheVariants.{Run, Check, Host, Make}
 use Rattle.program_words.specs.declared.numbers.TheConstants.{LEAST_VIEWS, MOST_VIEWS, SEED_DIGITS}
 use Rattle.program_words.specs.declared.numbers.TheConstants.{VIEWS_DIGITS}
 
@@ -44,6 +44,7 @@ AreViews word n = IsWritten VIEWS_DIGITS word n × (LEAST_VIEWS ≤ n) × (n ≤
 abbrev pub Says : Text → List Text → Mode → Type 0
 Says name numbers Run = (name ≡ codes "run") × (numbers ≡ [])
 Says name numbers Check = (name ≡ codes "check") × (numbers ≡ [])
+Says name numbers Host = (name ≡ codes "host") × (numbers ≡ [])
 Says name numbers (Make seed views) = (name ≡ codes "make") × (s v : Text) × (numbers ≡ s ∷ v ∷ [])
     × IsWritten SEED_DIGITS s seed × AreViews v views
 

@@ -11,6 +11,8 @@ pub enum Mode {
     Run,
     /// It checks a claim on a problem.
     Check,
+    /// It answers the lines of a script for many scenes.
+    Host,
     /// It answers the lines of the script that a generator draws from a seed, and sums up.
     Make {
         /// Where the generator begins.
@@ -32,6 +34,12 @@ fn is_check(word: &str) -> bool
     word == "check"
 }
 
+fn is_host(word: &str) -> bool
+    ensures { IsTrue result ↔ (word.now ≡ codes "host") }
+{
+    word == "host"
+}
+
 fn is_make(word: &str) -> bool
     ensures { IsTrue result ↔ (word.now ≡ codes "make") }
 {
@@ -48,6 +56,9 @@ fn plain_mode(name: &str) -> Option<Mode>
     }
     if is_check(name) {
         return Some(Mode::Check);
+    }
+    if is_host(name) {
+        return Some(Mode::Host);
     }
     None
 }

@@ -5,6 +5,9 @@ use Rattle.std.proofs.lemmas.List.{flat_map_more, take_more}
 pub three_appended : (o p q r a b c : List ℕ) → p ≡ o ++ a → q ≡ p ++ b → r ≡ q ++ c → r ≡ o ++ (a ++ (b ++ c))
 three_appended o p q r a b c h1 h2 h3 = rw (h3, h2, h1) (simp append_assoc)
 
+pub two_appended : (o p q a b : List ℕ) → p ≡ o ++ a → q ≡ p ++ b → q ≡ o ++ (a ++ b)
+two_appended o p q a b h1 h2 = rw (h2, h1) (simp append_assoc)
+
 -- the text of one element more
 pub texts_next : {A : Type 0} (text : A → List ℕ) (old now new : List ℕ) (xs : List A) (i : ℕ) (x : A) → i < length xs → x ≡ get_or xs i x → now ≡ old ++ flat_map text (take i xs) → new ≡ now ++ text x
     → new ≡ old ++ flat_map text (take (i + 1) xs)

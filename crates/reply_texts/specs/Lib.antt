@@ -1,3 +1,4 @@
 pub mod Found
+pub mod Cores
 pub mod Replies
 pub mod Printing

@@ -23,9 +23,10 @@ use Rattle.scenes.specs.Scene.{Scene, problem_of}
 use Rattle.session_undo.specs.Replies.{Reply, Nothing, Done, Frames, Rows, Outside, Unknown, Taken, Limit}
 use Rattle.session_undo.specs.Replies.{Certificate, Kind, Conflict, NoEarlier, Overflow, Spent, Place, Step}
 use Rattle.session_undo.specs.Replies.{Still}
-use Rattle.session_undo.specs.Replies.{Diagnosed, NoTarget, Probe}
+use Rattle.session_undo.specs.Replies.{Core, Diagnosed, Held, Solvable, NoTarget, Probe}
 use Rattle.diagnosis.specs.Diagnoses.{Findings}
 use Rattle.reply_texts.specs.Found.{findings_text, probe_line}
+use Rattle.reply_texts.specs.Cores.{core_lines, id_line}
 
 -- the word that names a limit
 abbrev pub limit_text : LimitWord → List ℕ
@@ -105,13 +106,18 @@ conflict_text by = codes "refused 6 " ++ claim_text (IsConflict by)
 
 -- `still ID`
 abbrev pub still_line : ℕ → List ℕ
-still_line id = codes "still " ++ (decimal id ++ newline ∷ [])
+still_line = id_line (codes "still ")
+
+-- `held ID`
+abbrev pub held_line : ℕ → List ℕ
+held_line = id_line (codes "held ")
 
 -- what stands before the path: no line where the command's own run stops
 abbrev pub place_text : List LiveView → Place → List ℕ
 place_text views Step = []
 place_text views (Still ids) = flat_map still_line ids
 place_text views (Probe attr up) = probe_line views attr up
+place_text views (Held ids) = flat_map held_line ids
 
 -- a quantity doesn't fit: what had stopped, the path, and the quantity
 abbrev pub overflow_text : List LiveView → Place → Path → Quantity → List ℕ
@@ -131,6 +137,14 @@ target_text views attr up = line_of (codes "refused 7 overflow")
 abbrev pub diagnosis_text : Scene → Findings → List ℕ
 diagnosis_text scene findings = findings_text scene.tree.views findings ++ line_of (codes "ok")
 
+-- `no conflict`, and `ok`
+abbrev pub no_conflict_text : List ℕ
+no_conflict_text = line_of (codes "no conflict") ++ line_of (codes "ok")
+
+-- the lines of the core, and `ok`
+abbrev pub core_text : List ℕ → List By → List (ℕ × List (ℕ × Fraction)) → List ℕ
+core_text ids by values = core_lines ids by values ++ line_of (codes "ok")
+
 -- the text of a refusal, where these are the views
 abbrev pub refusal_text : List LiveView → Reply → List ℕ
 refusal_text views Nothing = []
@@ -139,6 +153,8 @@ refusal_text views Frames = []
 refusal_text views Rows = []
 refusal_text views (Certificate levels) = []
 refusal_text views (Diagnosed findings) = []
+refusal_text views Solvable = []
+refusal_text views (Core ids by values) = []
 refusal_text views (Outside at) = codes "refused 1 syntax " ++ (decimal at ++ newline ∷ [])
 refusal_text views (Unknown name) = codes "refused 2 unknown " ++ (name ++ newline ∷ [])
 refusal_text views (Taken name) = codes "refused 3 taken " ++ (name ++ newline ∷ [])
@@ -158,4 +174,6 @@ text_of scene Frames = frames_text scene
 text_of scene Rows = rows_text scene
 text_of scene (Certificate levels) = certificate_text scene levels
 text_of scene (Diagnosed findings) = diagnosis_text scene findings
+text_of scene Solvable = no_conflict_text
+text_of scene (Core ids by values) = core_text ids by values
 text_of scene refusal = refusal_text scene.tree.views refusal

@@ -14,17 +14,20 @@
 //! where there is room for these its text is appended.
 //!
 //! In reading order: `frames`, `names` (the attributes by their names), `found` (what a scene lacks, and
-//! probes), `refusals`, `reply`; `printing` (frames straight to a sink).
+//! probes), `numbers` (rows by number), `cores` (rows that clash), `refusals`, `reply`; `printing` (frames
+//! straight to a sink).
 #![tactic(auto)]
 
+mod cores;
 mod found;
 mod frames;
 mod names;
+mod numbers;
 mod printing;
 mod refusals;
 mod reply;
 
 pub use frames::push_at;
+pub use numbers::push_line;
 pub use printing::print_frames;
-pub use refusals::push_line;
 pub use reply::{OK_LENGTH, reply_text};

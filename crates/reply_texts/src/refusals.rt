@@ -1,13 +1,13 @@
 // The text of refusals.
 ghost use Rattle.std.specs.Prelude.{◌≡◌, ◌++◌, ◌∷◌, [], IfOk, codes, decimal};
-ghost use Rattle.std.specs.List.{flat_map};
 ghost use Rattle.span_text.specs.Bytes.{newline};
 ghost use Rattle.session_undo.specs.Replies.{IsTold, place_of};
 ghost use Rattle.reply_texts.specs.Replies.{limit_text, kind_text, refusal_text, conflict_text};
-ghost use Rattle.reply_texts.specs.Replies.{overflow_text, place_text, spent_text, still_line};
+ghost use Rattle.reply_texts.specs.Replies.{overflow_text, place_text, spent_text};
 ghost use Rattle.reply_texts.specs.Replies.{target_text};
 
 use crate::found::push_probe;
+use crate::numbers::{push_ids, push_line};
 use cert_core::{Conflict, Path, UnfitPath};
 use claim_writing::{conflict_text, path_text, unfit_text};
 use compile_parts::KindWord;
@@ -51,16 +51,6 @@ fn kind_text(word: KindWord) -> &'static str
     }
 }
 
-/// Appends some bytes, a word and the end of the line.
-pub fn push_line(out: &mut Vec<u8>, front: &[u8], word: &[u8]) -> Result<(), OutOfMemory>
-    ensures { IfOk result (λ _. out.new.items ≡ out.old.items ++ (front.now ++ (word.now ++ newline ∷ []))) }
-{
-    out.extend_from_slice(front)?;
-    out.extend_from_slice(word)?;
-    out.push(b'\n')?;
-    Ok(())
-}
-
 fn push_outside(out: &mut Vec<u8>, at: usize) -> Result<(), OutOfMemory>
     ensures { IfOk result (λ _. out.new.items ≡ out.old.items
         ++ (codes "refused 1 syntax " ++ (decimal at ++ newline ∷ []))) }
@@ -77,25 +67,6 @@ fn push_conflict(out: &mut Vec<u8>, conflict: &Conflict) -> Result<(), OutOfMemo
     conflict_text(conflict, out)
 }
 
-// Appends the line of a row that is still held.
-fn push_still(out: &mut Vec<u8>, id: u32) -> Result<(), OutOfMemory>
-    ensures { IfOk result (λ _. out.new.items ≡ out.old.items ++ still_line id) }
-{
-    let mut word = String::new(*out.allocator());
-    write!(word, "{id}")?;
-    push_line(out, b"still ", word.as_bytes())
-}
-
-// Appends the lines of the rows that are still held.
-fn push_stills(out: &mut Vec<u8>, ids: &[u32]) -> Result<(), OutOfMemory>
-    ensures { IfOk result (λ _. out.new.items ≡ out.old.items ++ flat_map still_line ids.now) }
-{
-    for id in ids {
-        push_still(out, *id)?;
-    }
-    Ok(())
-}
-
 // Appends what stands before the path of a stop.
 fn push_place(out: &mut Vec<u8>, tree: &Tree, place: &StopPlace) -> Result<(), OutOfMemory>
     ensures { IfOk result
@@ -103,8 +74,9 @@ fn push_place(out: &mut Vec<u8>, tree: &Tree, place: &StopPlace) -> Result<(), O
 {
     match place {
         StopPlace::Step => Ok(()),
-        StopPlace::Still(ids) => push_stills(out, ids),
+        StopPlace::Still(ids) => push_ids(out, b"still ", ids),
         StopPlace::Probe { attr, up } => push_probe(out, tree, *attr, *up),
+        StopPlace::Held(ids) => push_ids(out, b"held ", ids),
     }
 }
 

@@ -3,19 +3,23 @@ ghost use Rattle.std.specs.Prelude.{◌≡◌, ◌≤◌, ◌+◌, ◌++◌, IfO
 ghost use Rattle.std.specs.Prelude.{vec_capacity};
 ghost use Rattle.std.specs.List.{flat_map};
 ghost use Rattle.reply_texts.specs.Replies.{text_of, frames_text, rows_text, name_lines};
-ghost use Rattle.reply_texts.specs.Replies.{certificate_text, diagnosis_text, line_of};
+ghost use Rattle.reply_texts.specs.Replies.{certificate_text, core_text, diagnosis_text, line_of};
+ghost use Rattle.reply_texts.specs.Replies.{no_conflict_text};
 ghost use Rattle.diagnosis.specs.Diagnoses.{findings_of};
 ghost use Rattle.session_undo.specs.Replies.{accepted, IsChange, Tells};
 ghost use Rattle.reply_texts.specs.declared.reply.TheConstants.{OK_LENGTH};
 
+use crate::cores::push_core;
 use crate::found::push_found;
 use crate::frames::push_frames;
 use crate::names::put_names;
 use crate::refusals::push_refusal;
-use cert_core::Best;
+use cert_core::{Best, Conflict};
 use claim_writing::{best_text, rows_text};
+use conflict_core::Found;
 use diagnosis::Diagnosis;
 use frac_core::OutOfMemory;
+use problem_core::Values;
 use session_undo::{Refusal, Reply, Session};
 use std::alloc::Global;
 
@@ -74,6 +78,25 @@ fn show_found(session: &Session, found: &Diagnosis, out: &mut Vec<u8>) -> Result
     push_ok(out)
 }
 
+fn show_no_conflict(out: &mut Vec<u8>) -> Result<(), OutOfMemory>
+    ensures { IfOk result (λ _. out.new.items ≡ out.old.items ++ no_conflict_text) }
+{
+    out.extend_from_slice(b"no conflict\n")?;
+    push_ok(out)
+}
+
+fn show_core(
+    rows: &[u32],
+    by: &Conflict,
+    without: &[(u32, Values)],
+    out: &mut Vec<u8>,
+) -> Result<(), OutOfMemory>
+    ensures { IfOk result (λ _. out.new.items ≡ out.old.items ++ core_text rows.now by.now without.now) }
+{
+    push_core(out, rows, by, without)?;
+    push_ok(out)
+}
+
 // Appends the text of the reply to an accepted line.
 fn push_reply(session: &Session, reply: &Reply, out: &mut Vec<u8>) -> Result<(), OutOfMemory>
     ensures { IfOk result (λ _. out.new.items
@@ -86,6 +109,8 @@ fn push_reply(session: &Session, reply: &Reply, out: &mut Vec<u8>) -> Result<(),
         Reply::Rows => show_rows(session, out),
         Reply::Certificate(best) => show_certificate(session, best, out),
         Reply::Diagnosed(found) => show_found(session, found, out),
+        Reply::Why(Found::Solvable) => show_no_conflict(out),
+        Reply::Why(Found::Core { rows, by, without }) => show_core(rows, by, without, out),
     }
 }
 

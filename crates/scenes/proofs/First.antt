@@ -1,12 +1,12 @@
 -- The first session.
-use Rattle.std.proofs.Common.{◌≡◌, ℕ, List, [], ◌∷◌, refl, ap, ap₂, ◌∙◌, subst, sym, lit<, pos, ◌<◌, ◌-◌, length, take, arith}
+use Rattle.std.proofs.Common.{◌≡◌, ℕ, List, [], ◌∷◌, refl, ap, ap₂, ◌∙◌, subst, sym, lit<, pos, ◌<◌, ◌≤◌, ◌-◌, length, take, arith}
 use Rattle.std.specs.Prelude.{◌*ℤ◌}
 use Rattle.std.proofs.lemmas.List.Elements.{All-from_recursion}
 use Rattle.frac_core.specs.Fraction.{Fraction, IsLowest}
 use Rattle.problem_core.specs.Window.{structural_rows}
 use Rattle.problem_core.specs.Layout.{Problem, Assignment, IsProblem, lines}
 use Rattle.problem_core.proofs.Best.WindowRows.{first-IsBest}
-use Rattle.view_tree.specs.Views.{ViewTree, window}
+use Rattle.view_tree.specs.Views.{ViewTree, first_tree}
 use Rattle.compile_parts.specs.Meaning.{MetricList}
 use Rattle.layout_solver.specs.Begins.{IsReached}
 use Rattle.layout_solver.specs.Layouts.{Layout, Solution, AreBest, solution_of, stays_at}
@@ -17,7 +17,8 @@ use Rattle.version_list.specs.Versions.{Versions}
 use Rattle.held_items.specs.declared.item.Item as declared
 use Rattle.held_items.specs.declared.item.Item.TheVariants as kind
 use Rattle.scenes.specs.declared.scene.past.Past.{Past}
-use Rattle.scenes.specs.Scene.{IsFirstCorner, Scene, new_values, first_scene}
+use Rattle.scenes.specs.Scene.{IsFirstCorner, Scene, first_history, first_scene_of, new_values}
+use Rattle.held_items.specs.declared.limits.TheConstants.{EARLIER}
 use Rattle.held_items.specs.Attributes.{IsCounted}
 use Rattle.scenes.specs.Kept.{AreAlike, IsKept, IsKeptHistory, history_at, scene_at}
 use Rattle.held_items.specs.Kept.{IsItem, IsNamed}
@@ -58,16 +59,13 @@ first-corner l is best reached =
     subst (λ (vs : List (ℕ × Fraction)). IsReached first_problem l.corner vs) (first-values l is best)
     (subst (λ (p : Problem). IsReached p l.corner l.values) is reached)
 
-abbrev pub first_tree : ViewTree
-first_tree = record { views = window ∷ []; next = 1 }
-
 abbrev pub first_setting : Setting
 first_setting = record { next_row = FIRST_FREE_ROW; direction = Ltr }
 
-pub first-is : (t : ViewTree) (l : Layout) → t ≡ first_tree → l.problem ≡ first_problem → AreBest l.problem l.values → scene_at t [] (OfWindow ∷ []) first_setting l ≡ first_scene l.corner
+pub first-is : (t : ViewTree) (l : Layout) → t ≡ first_tree t.most → l.problem ≡ first_problem → AreBest l.problem l.values → scene_at t [] (OfWindow ∷ []) first_setting l ≡ first_scene_of t.most l.corner
 first-is t l t_is is best =
     ap (λ (u : ViewTree). scene_at u [] (OfWindow ∷ []) first_setting l) t_is
-    ∙ ap₂ (λ (p : Problem) (vs : List (ℕ × Fraction)). scene_at first_tree [] (OfWindow ∷ []) first_setting (record l { problem = p; values = vs })) is (first-values l is best)
+    ∙ ap₂ (λ (p : Problem) (vs : List (ℕ × Fraction)). scene_at (first_tree t.most) [] (OfWindow ∷ []) first_setting (record l { problem = p; values = vs })) is (first-values l is best)
 
 pub first-kept : (t : ViewTree) (l : Layout) → l.problem ≡ first_problem → IsCounted t.views 5 l.problem → IsKept (scene_at t [] (OfWindow ∷ []) first_setting l)
 first-kept t l is counted = record {
@@ -87,23 +85,23 @@ versions items before = record { items = items; before = before }
 abbrev pub first_items : Versions declared.Item
 first_items = record { items = kind.OfWindow ∷ []; before = [] }
 
-pub first-history : (t : ViewTree) (ms : MetricList) (items : Versions declared.Item) (l : Layout) (pasts : List Past) → t ≡ first_tree → ms ≡ [] → items ≡ first_items → l.problem ≡ first_problem → AreBest l.problem l.values
-    → history_at t ms items first_setting l pasts ≡ record { scene = first_scene l.corner; earlier = [] }
-first-history t ms items l pasts t_is ms_is items_is is best =
-    ap (λ (m : MetricList). history_at t m items first_setting l pasts) ms_is
-    ∙ ap (λ (v : Versions declared.Item). history_at t [] v first_setting l pasts) items_is
-    ∙ ap (λ (s : Scene). record { scene = s; earlier = [] }) (first-is t l t_is is best)
+pub first-history : (t : ViewTree) (ms : MetricList) (items : Versions declared.Item) (l : Layout) (pasts : List Past) (undo : ℕ) → t ≡ first_tree t.most → ms ≡ [] → items ≡ first_items → l.problem ≡ first_problem → AreBest l.problem l.values
+    → history_at t ms items first_setting l pasts undo ≡ first_history t.most undo l.corner
+first-history t ms items l pasts undo t_is ms_is items_is is best =
+    ap (λ (m : MetricList). history_at t m items first_setting l pasts undo) ms_is
+    ∙ ap (λ (v : Versions declared.Item). history_at t [] v first_setting l pasts undo) items_is
+    ∙ ap (λ (s : Scene). record { scene = s; earlier = []; undo = undo }) (first-is t l t_is is best)
 
-pub first-history-kept : (t : ViewTree) (ms : MetricList) (items : Versions declared.Item) (l : Layout) (pasts : List Past) → ms ≡ [] → items ≡ first_items → l.problem ≡ first_problem → IsCounted t.views 5 l.problem
-    → IsKeptHistory (history_at t ms items first_setting l pasts)
-first-history-kept t ms items l pasts ms_is items_is is counted =
-    subst (λ (m : MetricList). IsKeptHistory (history_at t m items first_setting l pasts)) (sym ms_is)
-    (subst (λ (v : Versions declared.Item). IsKeptHistory (history_at t [] v first_setting l pasts)) (sym items_is)
+pub first-history-kept : (t : ViewTree) (ms : MetricList) (items : Versions declared.Item) (l : Layout) (pasts : List Past) (undo : ℕ) → ms ≡ [] → items ≡ first_items → l.problem ≡ first_problem → IsCounted t.views 5 l.problem
+    → IsKeptHistory (history_at t ms items first_setting l pasts undo)
+first-history-kept t ms items l pasts undo ms_is items_is is counted =
+    subst (λ (m : MetricList). IsKeptHistory (history_at t m items first_setting l pasts undo)) (sym ms_is)
+    (subst (λ (v : Versions declared.Item). IsKeptHistory (history_at t [] v first_setting l pasts undo)) (sym items_is)
     (record { scene = first-kept t l is counted; earlier = All-from_recursion IsKept [] tt }))
 
-pub first-alike : (items : List (List declared.Item)) (solutions : List Solution) (pasts : List Past) → items ≡ [] → solutions ≡ [] → pasts ≡ [] → AreAlike items solutions pasts
-first-alike items solutions pasts no_items no_solutions no_pasts =
-    rw (no_items, no_solutions, no_pasts) (record { items = refl; solutions = refl; few = omega arith })
+pub first-alike : (most : ℕ) → most ≤ EARLIER → (items : List (List declared.Item)) (solutions : List Solution) (pasts : List Past) → items ≡ [] → solutions ≡ [] → pasts ≡ [] → AreAlike most items solutions pasts
+first-alike most limit items solutions pasts no_items no_solutions no_pasts =
+    rw (no_items, no_solutions, no_pasts) (record { items = refl; solutions = refl; few = omega arith; limit = limit })
 
 -- the layout of no attribute is forgotten
 pub first-forgotten : (before : Layout) (run earlier : List Solution) → before.earlier ≡ [] → run ≡ solution_of before ∷ before.earlier → earlier ≡ take (length run - 1) run → earlier ≡ []

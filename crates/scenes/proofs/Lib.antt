@@ -10,3 +10,4 @@ pub mod Renewals
 pub mod Settings
 pub mod Turned
 pub mod Views
+pub mod RisingStays

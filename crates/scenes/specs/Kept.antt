@@ -1,5 +1,5 @@
 -- What a scene keeps, and of which parts it is made.
-use Rattle.std.specs.Prelude.{◌≡◌, ◌+◌, ◌<◌, ◌≤◌, List, [], ◌∷◌, All, length, Option, Some, None}
+use Rattle.std.specs.Prelude.{◌≡◌, ℕ, ◌+◌, ◌<◌, ◌≤◌, List, [], ◌∷◌, All, length, Option, Some, None}
 use Rattle.compile_parts.specs.Meaning.{MetricList}
 use Rattle.view_tree.specs.Views.{ViewTree}
 use Rattle.problem_core.specs.Layout.{Row}
@@ -53,12 +53,13 @@ earlier_at tree metrics (items ∷ rest) (s ∷ solutions) (p ∷ pasts) =
     scene_of (own_or p.tree tree) (own_or p.metrics metrics) (items_of items) p.setting s
     ∷ earlier_at (own_or p.tree tree) (own_or p.metrics metrics) rest solutions pasts
 
--- the scene of these parts, with those before it
+-- the scene of these parts, with those before it, of which so many may be
 abbrev pub history_at : ViewTree → MetricList → Versions declared.Item → Setting → Layout → List Past
-    → History
-history_at tree metrics items setting layout pasts = record {
+    → ℕ → History
+history_at tree metrics items setting layout pasts undo = record {
   scene = scene_at tree metrics (items_of items.items) setting layout;
   earlier = earlier_at tree metrics items.before layout.earlier pasts;
+  undo = undo;
 }
 
 -- the rows are those of what is held, and a row more would have a number that fits
@@ -81,11 +82,12 @@ pub record IsNextItem (scene : Scene) (item : Item) (more : List Row) : Type 0 w
   pub room : length scene.rows + length more ≤ MOST_ROWS
 
 -- there are as many earlier versions of each part, and not too many
-pub record AreAlike (held : List (List declared.Item)) (solved : List Solution) (pasts : List Past)
-    : Type 0 where
+pub record AreAlike (most : ℕ) (held : List (List declared.Item)) (solved : List Solution)
+    (pasts : List Past) : Type 0 where
   pub items : length held ≡ length pasts
   pub solutions : length solved ≡ length pasts
-  pub few : length pasts ≤ EARLIER
+  pub few : length pasts ≤ most
+  pub limit : most ≤ EARLIER
 
 -- what the scene and each earlier one keep
 pub record IsKeptHistory (history : History) : Type 0 where

@@ -1,6 +1,6 @@
 -- The scene: what a script has said so far, the rows that this stands for, and the values that it has led to.
 use Rattle.std.specs.Prelude.{◌≡◌, ℕ, ◌+◌, ◌*◌, Bool, true, false, List, [], ◌∷◌, ◌++◌, length, cond, take}
-use Rattle.std.specs.Prelude.{is_some, map}
+use Rattle.std.specs.Prelude.{is_some, map, AllPairs, ◌<◌}
 use Rattle.frac_core.specs.Fraction.{Fraction}
 use Rattle.name_tables.specs.Names.{names_of, place_of, with_value}
 use Rattle.problem_core.specs.declared.parts.Mark.{Mark}
@@ -9,7 +9,8 @@ use Rattle.problem_core.specs.Gaps.{value_of}
 use Rattle.problem_core.specs.Layout.{Row, Problem}
 use Rattle.problem_core.specs.Window.{structural_rows, zero_fraction}
 use Rattle.view_tree.specs.Attributes.{left_of, top_of, width_of, height_of}
-use Rattle.view_tree.specs.Views.{ViewTree, window}
+use Rattle.view_tree.specs.Views.{ViewTree, first_tree}
+use Rattle.view_tree.specs.declared.limits.TheConstants.{VIEW_LIMIT}
 use Rattle.view_tree.specs.JsonTrees.{Branch, size}
 use Rattle.compile_parts.specs.Meaning.{MetricList}
 use Rattle.constraint_compile.specs.Compiled.{CompiledLine}
@@ -23,7 +24,6 @@ use Rattle.held_items.specs.Items.{Item, OfWindow, OfView, Sized, OfLine, Sugges
 use Rattle.held_items.specs.Items.{has_size, intrinsic_again, resized, suggested_again, view_items}
 use Rattle.held_items.specs.declared.item.intrinsic.IntrinsicSize.{IntrinsicSize}
 use Rattle.held_items.specs.Attributes.{attributes_from}
-use Rattle.held_items.specs.declared.limits.TheConstants.{EARLIER}
 use Rattle.held_items.specs.declared.row_numbers.TheConstants.{FIRST_FREE_ROW, INTRINSIC_ROWS, SIZE_ROWS}
 use Rattle.held_items.specs.declared.row_numbers.TheConstants.{VIEW_ROWS}
 use Rattle.view_tree.specs.Views as tree
@@ -44,18 +44,19 @@ pub record Scene : Type 0 where
   pub values : List (ℕ × Fraction)
   pub corner : List Mark
 
--- a scene, and those before it, the latest first
+-- a scene, those before it, the latest first, and how many these may be
 pub record History : Type 0 where
   pub scene : Scene
   pub earlier : List Scene
+  pub undo : ℕ
 
 -- the earlier scenes, once there is another scene after this one: the oldest of too many is forgotten
-abbrev pub with_earlier : Scene → List Scene → List Scene
-with_earlier scene earlier = take EARLIER (scene ∷ earlier)
+abbrev pub with_earlier : ℕ → Scene → List Scene → List Scene
+with_earlier most scene earlier = take most (scene ∷ earlier)
 
--- after a step the earlier scenes are these
+-- after a step the earlier scenes are these, and as many may be
 abbrev pub Remembers : History → History → Type 0
-Remembers old new = new.earlier ≡ with_earlier old.scene old.earlier
+Remembers old new = (new.earlier ≡ with_earlier old.undo old.scene old.earlier) × (new.undo ≡ old.undo)
 
 -- the problem of the scene's rows and stays
 abbrev pub problem_of : Scene → Problem
@@ -66,6 +67,10 @@ problem_of scene = record { rows = scene.rows; stays = scene.stays }
 -- stays of the same attributes, at their values
 abbrev pub moved : List Stay → List (ℕ × Fraction) → List Stay
 moved stays values = map (λ s. record { attr = s.attr; target = value_of values s.attr }) stays
+
+-- the attributes of these stays rise
+abbrev pub AreRisingStays : List Stay → Type 0
+AreRisingStays stays = AllPairs (λ s t. s.attr < t.attr) stays
 
 -- the four attributes of a view, at 0
 abbrev pub new_values : ℕ → List (ℕ × Fraction)
@@ -191,10 +196,11 @@ IsBestScene scene = AreBest (problem_of scene) scene.values
 
 -- ---- the first scene
 
--- the window alone, with its four rows, no size, and every value 0, where the marks inside are these
-abbrev pub first_scene : List Mark → Scene
-first_scene corner = record {
-  tree = record { views = window ∷ []; next = 1 };
+-- the window alone, with its four rows, no size, and every value 0, where so many views may be live and the
+-- marks inside are these
+abbrev pub first_scene_of : ℕ → List Mark → Scene
+first_scene_of views corner = record {
+  tree = first_tree views;
   metrics = [];
   held = OfWindow ∷ [];
   next_row = FIRST_FREE_ROW;
@@ -203,6 +209,18 @@ first_scene corner = record {
   stays = new_stays 0;
   values = new_values 0;
   corner = corner;
+}
+
+-- the same where as many views may be live as ever
+abbrev pub first_scene : List Mark → Scene
+first_scene corner = first_scene_of VIEW_LIMIT corner
+
+-- the same with no earlier scene, of which so many may be
+abbrev pub first_history : (views undo : ℕ) → List Mark → History
+first_history views undo corner = record {
+  scene = first_scene_of views corner;
+  earlier = [];
+  undo = undo;
 }
 
 -- these are the marks of a corner of its problem that is an end, at which its values stand

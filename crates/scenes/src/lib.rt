@@ -24,8 +24,8 @@
 //!
 //! In reading order: `limits`; `scene` is what the held items (`held_items`) come to, with `past` (earlier
 //! scenes), `frames`, `values`, `drafts` (problems that no engine has taken), `problems` (those of a scene's
-//! changes), `solving` (the engine's changes), `steps` (the scene's) and `updates`, those in which no view comes and
-//! nothing leaves.
+//! changes), `solving` (the engine's changes), `steps` (the scene's) and `updates`, those in which no view
+//! comes and nothing leaves.
 #![tactic(auto)]
 
 mod limits;

@@ -39,7 +39,7 @@ use std::alloc::Global;
 use std::collections::VecDeque;
 use std::marker::Model;
 use version_list::VersionList;
-use view_tree::{Tree, ViewId};
+use view_tree::{Tree, VIEW_LIMIT, ViewId};
 
 /// The views, the metrics, what is held, and the engine with the rows of it and the best values; and those of
 /// the scenes before, which share with the scene after them what is the same.
@@ -52,6 +52,8 @@ pub struct Scene {
     engine: Engine,
     // What each earlier scene has of its own, the latest first.
     pasts: VecDeque<Past>,
+    // How many earlier scenes there may be.
+    undo: usize,
     alloc: Global,
 }
 
@@ -64,11 +66,11 @@ impl Model for Scene {
 
     ghost Value = { History };
 
-    ghost view = { λ s. history_at s.tree s.metrics s.items s.setting s.engine s.pasts.items };
+    ghost view = { λ s. history_at s.tree s.metrics s.items s.setting s.engine s.pasts.items s.undo };
 
     ghost invariant = { λ s. IsKeptHistory
-        (history_at s.tree s.metrics s.items s.setting s.engine s.pasts.items)
-        × AreAlike s.items.before s.engine.earlier s.pasts.items
+        (history_at s.tree s.metrics s.items s.setting s.engine s.pasts.items s.undo)
+        × AreAlike s.undo s.items.before s.engine.earlier s.pasts.items
         × (EARLIER < deque_capacity s.pasts) };
 }
 
@@ -122,14 +124,15 @@ fn put_own<T: Drop>(mut own: Option<T>, part: &mut T)
 }
 
 impl Scene {
-    ghost use Rattle.view_tree.specs.Views.{view_of};
+    ghost use Rattle.view_tree.specs.Views.{first_tree, view_of};
+    ghost use Rattle.view_tree.specs.declared.limits.TheConstants.{VIEW_LIMIT};
     ghost use Rattle.diagnosis.specs.Diagnoses.{findings_of};
     ghost use Rattle.scenes.specs.Diagnosing.{AreFindingsOf, IsCertificateOf, IsProbedStop};
     ghost use Rattle.scenes.specs.Frames.{IsFrameAt, IsFrameOf};
     ghost use Rattle.held_items.specs.Items.{has_size, intrinsic_of, line_count, suggestion_of};
     ghost use Rattle.held_items.specs.Leaving.{is_in_group};
     ghost use Rattle.held_items.specs.Moving.{IsFarSize};
-    ghost use Rattle.scenes.specs.Scene.{IsFirstCorner, first_scene};
+    ghost use Rattle.scenes.specs.Scene.{IsFirstCorner, first_history};
     ghost use Rattle.std.specs.VecDeque.{deque_capacity};
     ghost use Rattle.held_items.specs.declared.limits.TheConstants.{EARLIER};
 
@@ -140,15 +143,17 @@ impl Scene {
         metrics: Metrics,
         items: VersionList<Item>,
         pasts: VecDeque<Past>,
+        undo: usize,
     ) -> Result<Scene, OutOfMemory>
-        requires tree { tree ≡ (first_scene []).tree }
+        requires tree { tree ≡ first_tree tree.most }
         requires metrics { metrics ≡ [] }
         requires items { items ≡ record { items = kind.OfWindow ∷ []; before = [] } }
         requires none { pasts.items ≡ [] }
         requires room { EARLIER < deque_capacity pasts }
+        requires undo { undo ≤ EARLIER }
         ensures corner { IfOk result (λ history. IsFirstCorner history.scene.corner) }
         ensures first { IfOk result (λ history.
-            history ≡ record { scene = first_scene history.scene.corner; earlier = [] }) }
+            history ≡ first_history tree.most undo history.scene.corner) }
     {
         let engine = first_engine(alloc)?;
         engine.show_layout(); // for the proof: what an engine keeps
@@ -162,32 +167,50 @@ impl Scene {
             },
             engine,
             pasts,
+            undo,
             alloc,
         })
     }
 
     // The window alone, of its views and metrics.
-    fn with_names(alloc: Global, tree: Tree, metrics: Metrics) -> Result<Scene, OutOfMemory>
-        requires tree { tree ≡ (first_scene []).tree }
+    fn with_names(
+        alloc: Global,
+        tree: Tree,
+        metrics: Metrics,
+        undo: usize,
+    ) -> Result<Scene, OutOfMemory>
+        requires tree { tree ≡ first_tree tree.most }
         requires metrics { metrics ≡ [] }
+        requires undo { undo ≤ EARLIER }
         ensures corner { IfOk result (λ history. IsFirstCorner history.scene.corner) }
         ensures first { IfOk result (λ history.
-            history ≡ record { scene = first_scene history.scene.corner; earlier = [] }) }
+            history ≡ first_history tree.most undo history.scene.corner) }
     {
         let items = first_items(alloc)?;
         let pasts = VecDeque::with_capacity(alloc, EARLIER + 1)?;
-        Scene::with_parts(alloc, tree, metrics, items, pasts)
+        Scene::with_parts(alloc, tree, metrics, items, pasts, undo)
+    }
+
+    /// The window alone, where so many views may be live and so many scenes are earlier at most.
+    pub fn with(alloc: Global, views: u32, undo: usize) -> Result<Scene, OutOfMemory>
+        requires some { 0 < views }
+        requires few { views ≤ VIEW_LIMIT }
+        requires undo { undo ≤ EARLIER }
+        ensures corner { IfOk result (λ history. IsFirstCorner history.scene.corner) }
+        ensures first { IfOk result (λ history. history ≡ first_history views undo history.scene.corner) }
+    {
+        let tree = Tree::with(alloc, views)?;
+        let metrics = Metrics::new(alloc)?;
+        Scene::with_names(alloc, tree, metrics, undo)
     }
 
     /// The window alone.
     pub fn new(alloc: Global) -> Result<Scene, OutOfMemory>
         ensures corner { IfOk result (λ history. IsFirstCorner history.scene.corner) }
         ensures first { IfOk result (λ history.
-            history ≡ record { scene = first_scene history.scene.corner; earlier = [] }) }
+            history ≡ first_history VIEW_LIMIT EARLIER history.scene.corner) }
     {
-        let tree = Tree::new(alloc)?;
-        let metrics = Metrics::new(alloc)?;
-        Scene::with_names(alloc, tree, metrics)
+        Scene::with(alloc, VIEW_LIMIT as u32, EARLIER)
     }
 
     /// The views.
@@ -331,7 +354,8 @@ impl Scene {
     /// Goes back to the latest earlier scene.
     pub fn back(&mut self)
         requires { 0 < length self.old.earlier }
-        ensures { self.old.earlier ≡ self.new.scene ∷ self.new.earlier }
+        ensures back { self.old.earlier ≡ self.new.scene ∷ self.new.earlier }
+        ensures undo { self.new.undo ≡ self.old.undo }
     {
         // There are as many as earlier scenes.
         let Some(past) = self.pasts.pop_front() else {

@@ -1,6 +1,6 @@
 -- The lines of a script, by the cases of their grammar. What follows a construct is its last argument.
 use Rattle.std.specs.Prelude.{◌≡◌, ℕ, ◌-◌, Bool, true, false, not, List, [], ◌∷◌, ◌++◌, length, Option, Some}
-use Rattle.std.specs.Prelude.{None, codes, pos, Result}
+use Rattle.std.specs.Prelude.{None, codes, pos, map, Result}
 use Rattle.span_text.specs.Bytes.{at_sign, minus, plus, star}
 use Rattle.span_text.specs.Classes.{is_space}
 use Rattle.span_text.specs.Language.{Rel, End, Lit, One, Not, Or, Words}
@@ -12,10 +12,12 @@ use Rattle.span_text.specs.declared.limits.TheConstants.{UNIT}
 use Rattle.frac_core.specs.Fraction.{Fraction}
 use Rattle.vfl_text.specs.Grammar.{FormatText, relations}
 use Rattle.script_text.specs.Fractions.{lowest}
-use Rattle.script_text.specs.Meaning.{Operand, Term, Linear, Meaning}
+use Rattle.script_text.specs.Meaning.{Operand, Term, Linear, Meaning, Said}
 use Rattle.script_text.specs.Meaning as mean
 use Rattle.script_text.specs.declared.words.Keyword.{Keyword}
 use Rattle.script_text.specs.declared.words.Keyword.TheVariants as key
+use Rattle.script_text.specs.declared.words.FirstWord.{FirstWord}
+use Rattle.script_text.specs.declared.words.FirstWord.TheVariants as first
 use Rattle.script_text.specs.declared.words.Align.{Align}
 use Rattle.script_text.specs.declared.words.Align.TheVariants as align
 use Rattle.script_text.specs.declared.words.AttrWord.{AttrWord}
@@ -27,24 +29,39 @@ use Rattle.script_text.specs.declared.words.Version.TheVariants as version
 use Rattle.span_text.specs.Reading.{either, read_word}
 use Rattle.problem_core.specs.declared.parts.Rel as parts
 
--- the first words of lines, in each version
-unfoldable pub first_words : List (List ℕ × Keyword)
-first_words = (codes "view", key.View) ∷ (codes "tree", key.Tree) ∷ (codes "drop", key.Drop)
+-- the words of commands that make changes, in each version
+unfoldable pub change_words : List (List ℕ × Keyword)
+change_words = (codes "view", key.View) ∷ (codes "tree", key.Tree) ∷ (codes "drop", key.Drop)
     ∷ (codes "metric", key.Metric) ∷ (codes "window", key.Window) ∷ (codes "vfl", key.Vfl)
     ∷ (codes "constrain", key.Constrain) ∷ (codes "remove", key.Remove) ∷ (codes "suggest", key.Suggest)
-    ∷ (codes "release", key.Release) ∷ (codes "undo", key.Undo) ∷ (codes "budget", key.Budget)
-    ∷ (codes "frames", key.Frames) ∷ (codes "rows", key.Rows) ∷ (codes "diagnose", key.Diagnose)
-    ∷ (codes "certify", key.Certify) ∷ []
+    ∷ (codes "release", key.Release) ∷ []
 
--- those that version 2 has besides
-unfoldable pub new_words : List (List ℕ × Keyword)
-new_words = (codes "direction", key.Direction) ∷ (codes "size", key.Size) ∷ (codes "unsize", key.Unsize)
-    ∷ []
+-- those of the others
+unfoldable pub plain_words : List (List ℕ × Keyword)
+plain_words = (codes "undo", key.Undo) ∷ (codes "budget", key.Budget) ∷ (codes "frames", key.Frames)
+    ∷ (codes "rows", key.Rows) ∷ (codes "diagnose", key.Diagnose) ∷ (codes "certify", key.Certify) ∷ []
 
--- the first words of lines in this version
-abbrev pub words_of : Version → List (List ℕ × Keyword)
-words_of version.One = first_words
-words_of version.Two = first_words ++ new_words
+-- those of changes that version 2 has besides
+unfoldable pub new_change_words : List (List ℕ × Keyword)
+new_change_words = (codes "direction", key.Direction) ∷ (codes "size", key.Size)
+    ∷ (codes "unsize", key.Unsize) ∷ []
+
+-- the words of all commands of version 1
+abbrev pub first_words : List (List ℕ × Keyword)
+first_words = change_words ++ plain_words
+
+-- the words of all commands of version 2 that make changes
+abbrev pub changing_words : List (List ℕ × Keyword)
+changing_words = change_words ++ new_change_words
+
+-- a command's word as the first of a line
+abbrev pub command_word : List ℕ × Keyword → List ℕ × FirstWord
+command_word w = (w.0, first.Command w.1)
+
+-- the first words of lines in this version: in version 2 `why`, and those of its commands
+abbrev pub words_of : Version → List (List ℕ × FirstWord)
+words_of version.One = map command_word first_words
+words_of version.Two = (codes "why", first.Why) ∷ map command_word (first_words ++ new_change_words)
 
 -- each word is tried before r
 abbrev pub over : List (List ℕ × Keyword) → List ℕ → Result (Keyword × List ℕ) ℕ
@@ -164,7 +181,7 @@ is_any b = true
 abbrev pub Rest : {A : Type 0} → (List ℕ → A) → Rel A
 Rest f = One is_any (λ b t v. v ≡ f (b ∷ t))
 
--- What follows the first word of a line of this length. The text of a tree runs to the line's end.
+-- What follows the word of a command in a line of this length. The text of a tree runs to the line's end.
 abbrev pub Arguments : ℕ → Keyword → Rel Meaning
 Arguments len key.View = Name (λ n. Or (Word (codes "in") (Name (λ p. End (mean.View n (Some p)))))
     (End (mean.View n None)))
@@ -202,13 +219,22 @@ is_no_space b = not (is_space b)
 abbrev pub Apart : {A : Type 0} → Rel A → Rel A
 Apart F = Not is_no_space (Blanks F)
 
--- a line of this length: a comment, a command whose first word is one of these, or a blank line
-abbrev pub LineOf : List (List ℕ × Keyword) → ℕ → Rel Meaning
-LineOf words len = Blanks (Or (Lit (codes "#") (Any mean.Nothing))
-    (Or (Words words (λ k. Apart (Arguments len k))) (End mean.Nothing)))
+-- What follows the first word of a line of this length. Behind `why` stands a command that makes a change.
+abbrev pub Follows : ℕ → FirstWord → Rel Said
+Follows len (first.Command k) = Made mean.Does (Arguments len k)
+Follows len first.Why = Made mean.Why (Words changing_words (λ k. Apart (Arguments len k)))
 
--- a line and what it means
-unfoldable pub Line : List (List ℕ × Keyword) → Rel Meaning
+-- what is said by a blank line or a comment
+abbrev pub says_nothing : Said
+says_nothing = mean.Does mean.Nothing
+
+-- a line of this length: a comment, one whose first word is one of these, or a blank line
+abbrev pub LineOf : List (List ℕ × FirstWord) → ℕ → Rel Said
+LineOf words len = Blanks (Or (Lit (codes "#") (Any says_nothing))
+    (Or (Words words (λ w. Apart (Follows len w))) (End says_nothing)))
+
+-- a line and what it says
+unfoldable pub Line : List (List ℕ × FirstWord) → Rel Said
 Line words line = LineOf words (length line) line
 
 -- the line with which a script of version 2 begins: the words `layout` and `2`

@@ -16,14 +16,17 @@ use Rattle.frac_core.specs.Fraction.{Fraction}
 use Rattle.vfl_text.specs.Grammar.{relations}
 use Rattle.vfl_text.specs.Reading.{format_at, is_at, is_minus}
 use Rattle.script_text.specs.Fractions.{lowest}
-use Rattle.script_text.specs.Meaning.{Operand, Term, Linear, Meaning}
+use Rattle.script_text.specs.Meaning.{Operand, Term, Linear, Meaning, Said}
 use Rattle.script_text.specs.Meaning as mean
-use Rattle.script_text.specs.Grammar.{alignments, attributes, decimal, directions, times, linear, is_any}
+use Rattle.script_text.specs.Grammar.{alignments, attributes, changing_words, decimal, directions, times}
+use Rattle.script_text.specs.Grammar.{linear, is_any, says_nothing}
 use Rattle.problem_core.specs.declared.parts.Rel.{Rel}
 use Rattle.script_text.specs.declared.words.Align.{Align}
 use Rattle.script_text.specs.declared.words.AttrWord.{AttrWord}
 use Rattle.script_text.specs.declared.words.Keyword.{Keyword}
 use Rattle.script_text.specs.declared.words.Keyword.TheVariants as key
+use Rattle.script_text.specs.declared.words.FirstWord.{FirstWord}
+use Rattle.script_text.specs.declared.words.FirstWord.TheVariants as first
 
 -- the first byte of `align`
 abbrev pub is_a : ℕ → Bool
@@ -312,7 +315,7 @@ size_at s = do
   _ ← end_at resist.1
   Ok (mean.Size name.0 (decimal false width.0) (decimal false height.0) hug.0 resist.0)
 
--- what follows the first word of a line of this length
+-- what follows the word of a command in a line of this length
 abbrev pub arguments_at : ℕ → Keyword → List ℕ → Result Meaning ℕ
 arguments_at len key.View s = view_at s
 arguments_at len key.Tree s = tree_at len s
@@ -339,23 +342,44 @@ unfoldable pub apart_at : List ℕ → Result (List ℕ) ℕ
 apart_at [] = Ok []
 apart_at (b ∷ s) = if is_space b then Ok (skip (b ∷ s)) else Err (length (b ∷ s))
 
--- in a line of this length, a command whose first word is one of these
-unfoldable pub command_at : List (List ℕ × Keyword) → ℕ → List ℕ → Result Meaning ℕ
-command_at words len s = do
-  word ← tried words s
+-- a command's word as the first of a line
+abbrev pub as_first : Result (Keyword × List ℕ) ℕ → Result (FirstWord × List ℕ) ℕ
+as_first (Ok r) = Ok (first.Command r.0, r.1)
+as_first (Err m) = Err m
+
+-- behind `why` in a line of this length: a command that makes a change
+unfoldable pub changing_at : ℕ → List ℕ → Result Meaning ℕ
+changing_at len s = do
+  word ← tried changing_words s
   rest ← apart_at word.1
   arguments_at len word.0 rest
 
--- a line of this length behind the blanks in front of it: a comment, a command, or nothing
-unfoldable pub content_at : List (List ℕ × Keyword) → ℕ → List ℕ → Result Meaning ℕ
+-- what follows the first word of a line of this length
+abbrev pub follows_at : ℕ → FirstWord → List ℕ → Result Said ℕ
+follows_at len (first.Command k) s = arguments_at len k s >>= λ m. Ok (mean.Does m)
+follows_at len first.Why s = changing_at len s >>= λ m. Ok (mean.Why m)
+
+-- in a line of this length, one of these first words, and what follows it
+unfoldable pub said_at : List (List ℕ × FirstWord) → ℕ → List ℕ → Result Said ℕ
+said_at words len s = do
+  word ← tried words s
+  rest ← apart_at word.1
+  follows_at len word.0 rest
+
+-- a line of this length behind the blanks in front of it: a comment, a command or a question, or nothing
+unfoldable pub content_at : List (List ℕ × FirstWord) → ℕ → List ℕ → Result Said ℕ
 content_at words len s = if starts is_hash s
     then (do
       _ ← lit_at (codes "#") s
-      Ok mean.Nothing)
-    else (if starts is_any s then command_at words len s else bare_at mean.Nothing s)
+      Ok says_nothing)
+    else (if starts is_any s
+    then said_at words len s
+    else (do
+      _ ← end_at s
+      Ok says_nothing))
 
--- what a line means, or how many of its bytes are left where the reading ends
-unfoldable pub line_at : List (List ℕ × Keyword) → List ℕ → Result Meaning ℕ
+-- what a line says, or how many of its bytes are left where the reading ends
+unfoldable pub line_at : List (List ℕ × FirstWord) → List ℕ → Result Said ℕ
 line_at words s = content_at words (length s) (skip s)
 
 -- the words `layout` and `2`, and nothing else

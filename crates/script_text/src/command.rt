@@ -112,7 +112,7 @@ impl<'a> Linear<'a> {
     }
 }
 
-/// The reading of a line. Each name is a slice of the line.
+/// A command. Each name is a slice of its line.
 #[derive(Drop)]
 pub enum Command<'a> {
     /// A blank line or a comment.
@@ -193,4 +193,12 @@ pub enum Command<'a> {
     Unsize {
         name: &'a str,
     },
+}
+
+/// The reading of a line: a command, or a command that makes a change, of which it is asked why it would
+/// clash.
+#[derive(Drop)]
+pub enum Reading<'a> {
+    Command(Command<'a>),
+    Why(Command<'a>),
 }

@@ -28,13 +28,17 @@
 //! direction (ltr | rtl)
 //! size NAME NUMBER NUMBER (hug PRIORITY)? (resist PRIORITY)?
 //! unsize NAME
+//! why CHANGE
 //! ```
+//!
+//! A change is a command down to `release` in the first list, or one of the second other than `why`. Its line
+//! stands behind `why` as it stands alone ([`Reading`]).
 //!
 //! [`read_line_in`] gives the one reading of a line of a version, whose names are slices of it, or the place
 //! where it leaves the grammar; [`read_line`] is its case of version 1:
 //!
 //! ```
-//! read_line(alloc, b"metric gap 8")?            // Command::Metric: the name `gap`, the value 8
+//! read_line(alloc, b"metric gap 8")?            // Reading::Command: a metric of the name `gap`, the value 8
 //! read_line(alloc, b"metric gap")               // Stop::Refused(SyntaxAt(10)): all 10 bytes begin some line
 //! ```
 //!
@@ -76,7 +80,7 @@ mod terms;
 mod versions;
 mod words;
 
-pub use command::{Command, ExprTerm, Linear, Operand};
+pub use command::{Command, ExprTerm, Linear, Operand, Reading};
 pub use fractions::signed_number;
 pub use laws::{line_reads_or_leaves, offset_is_unique, reading_is_unique};
 pub use lines::{read_line, read_line_in};

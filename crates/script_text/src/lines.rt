@@ -3,23 +3,23 @@ ghost use Rattle.std.specs.Prelude.{◌≡◌, IfErr, IfOk};
 ghost use Rattle.span_text.specs.GivesOrMemory.{GivesOrMemory};
 ghost use Rattle.script_text.specs.Grammar.{Line, words_of};
 ghost use Rattle.script_text.specs.declared.words.Version.TheVariants as version_type;
-ghost use Rattle.script_text.specs.Meaning.{Meaning};
+ghost use Rattle.script_text.specs.Meaning.{Said};
 ghost use Rattle.script_text.specs.Meaning as mean;
 ghost use Rattle.script_text.specs.LineReading.{view_at, tree_at, named_at, metric_at, window_at, budget_at};
-ghost use Rattle.script_text.specs.LineReading.{bare_at, apart_at, arguments_at, command_at, content_at};
-ghost use Rattle.script_text.specs.LineReading.{line_at, metric_value_at};
+ghost use Rattle.script_text.specs.LineReading.{bare_at, apart_at, arguments_at, changing_at, content_at};
+ghost use Rattle.script_text.specs.LineReading.{follows_at, line_at, metric_value_at, said_at};
 ghost use Rattle.span_text.specs.Gives.{Gives};
 ghost use Rattle.vfl_text.specs.Stops.{IsStopOf};
-ghost use Rattle.script_text.specs.View.{view};
+ghost use Rattle.script_text.specs.View.{reading_view, view};
 
-use crate::command::Command;
+use crate::command::{Command, Reading};
 use crate::constraint::constrain;
 use crate::directions::direction;
 use crate::formats::vfl;
 use crate::fractions::signed_number;
 use crate::sizes::size;
 use crate::suggestions::{release, suggest};
-use crate::words::{Keyword, Version, first_word};
+use crate::words::{FirstWord, Keyword, Version, changing_word, first_word};
 use frac_core::Stop;
 use span_text::{PartStop, SyntaxAt, names, numbers, pieces};
 use std::alloc::Global;
@@ -166,15 +166,7 @@ fn diagnose_line(text: &[u8]) -> Result<Command<'_>, PartStop>
     Ok(Command::Diagnose)
 }
 
-#[tactic(auto, unfolding(crate::specs::LineReading::bare_at))]
-fn blank_line(text: &[u8]) -> Result<Command<'_>, PartStop>
-    ensures { GivesOrMemory view result (bare_at mean.Nothing text.now) }
-{
-    pieces::end(text)?;
-    Ok(Command::Nothing)
-}
-
-// What follows the first word of a line of this length.
+// What follows the word of a command in a line of this length.
 fn arguments(
     alloc: Global,
     len: usize,
@@ -217,19 +209,36 @@ pub(crate) fn apart(text: &[u8]) -> Result<&[u8], usize>
     }
 }
 
-// A command, in a line of this length.
-#[tactic(auto, unfolding(crate::specs::LineReading::command_at))]
-fn command(
-    alloc: Global,
-    len: usize,
-    text: &[u8],
-    version: Version,
-) -> Result<Command<'_>, PartStop>
-    ensures { GivesOrMemory view result (command_at (words_of version) len text.now) }
+// A command that makes a change, behind the word that asks about it in a line of this length.
+#[tactic(auto, unfolding(crate::specs::LineReading::changing_at))]
+fn changing(alloc: Global, len: usize, text: &[u8]) -> Result<Command<'_>, PartStop>
+    ensures { GivesOrMemory view result (changing_at len text.now) }
+{
+    let (word, text) = changing_word(text)?;
+    let text = apart(text)?;
+    arguments(alloc, len, word, text)
+}
+
+// What follows the first word of a line of this length.
+fn follows(alloc: Global, len: usize, word: FirstWord, text: &[u8]) -> Result<Reading<'_>, PartStop>
+    ensures { GivesOrMemory reading_view result (follows_at len word text.now) }
+{
+    match word {
+        FirstWord::Command(keyword) => {
+            Ok(Reading::Command(arguments(alloc, len, keyword, text)?))
+        }
+        FirstWord::Why => Ok(Reading::Why(changing(alloc, len, text)?)),
+    }
+}
+
+// A first word and what follows it, in a line of this length.
+#[tactic(auto, unfolding(crate::specs::LineReading::said_at))]
+fn said(alloc: Global, len: usize, text: &[u8], version: Version) -> Result<Reading<'_>, PartStop>
+    ensures { GivesOrMemory reading_view result (said_at (words_of version) len text.now) }
 {
     let (word, text) = first_word(text, version)?;
     let text = apart(text)?;
-    arguments(alloc, len, word, text)
+    follows(alloc, len, word, text)
 }
 
 // A line of this length behind the spaces in front of it.
@@ -239,24 +248,25 @@ fn content(
     len: usize,
     text: &[u8],
     version: Version,
-) -> Result<Command<'_>, PartStop>
-    ensures { GivesOrMemory view result (content_at (words_of version) len text.now) }
+) -> Result<Reading<'_>, PartStop>
+    ensures { GivesOrMemory reading_view result (content_at (words_of version) len text.now) }
 {
     if pieces::begins(text, b'#') {
         pieces::literal(b"#", text)?;
-        return Ok(Command::Nothing);
+        return Ok(Reading::Command(Command::Nothing));
     }
     if text.is_empty() {
-        blank_line(text)
+        pieces::end(text)?;
+        Ok(Reading::Command(Command::Nothing))
     } else {
-        command(alloc, len, text, version)
+        said(alloc, len, text, version)
     }
 }
 
 // What a line says.
 #[tactic(auto, unfolding(crate::specs::LineReading::line_at))]
-fn any_line(alloc: Global, line: &[u8], version: Version) -> Result<Command<'_>, PartStop>
-    ensures { GivesOrMemory view result (line_at (words_of version) line.now) }
+fn any_line(alloc: Global, line: &[u8], version: Version) -> Result<Reading<'_>, PartStop>
+    ensures { GivesOrMemory reading_view result (line_at (words_of version) line.now) }
 {
     content(alloc, line.len(), pieces::skip(line), version)
 }
@@ -268,24 +278,25 @@ pub fn read_line_in(
     alloc: Global,
     line: &[u8],
     version: Version,
-) -> Result<Command<'_>, Stop<SyntaxAt>>
-    ensures sound { IfOk result (λ command. Line (words_of version) line.now (view command)) }
-    ensures one { (m : Meaning) → Line (words_of version) line.now m
-        → IfOk result (λ command. view command ≡ m) }
+) -> Result<Reading<'_>, Stop<SyntaxAt>>
+    ensures sound { IfOk result (λ reading. Line (words_of version) line.now (reading_view reading)) }
+    ensures one { (said : Said) → Line (words_of version) line.now said
+        → IfOk result (λ reading. reading_view reading ≡ said) }
     ensures offset { IfErr result (IsStopOf (Line (words_of version)) line.now) }
 {
     match any_line(alloc, line, version) {
-        Ok(command) => Ok(command),
+        Ok(reading) => Ok(reading),
         Err(PartStop::Left(left)) => Err(Stop::Refused(SyntaxAt(line.len() - left))),
         Err(PartStop::OutOfMemory) => Err(Stop::OutOfMemory),
     }
 }
 
 /// The one reading of a line of version 1.
-pub fn read_line(alloc: Global, line: &[u8]) -> Result<Command<'_>, Stop<SyntaxAt>>
-    ensures sound { IfOk result (λ command. Line (words_of version_type.One) line.now (view command)) }
-    ensures one { (m : Meaning) → Line (words_of version_type.One) line.now m
-        → IfOk result (λ command. view command ≡ m) }
+pub fn read_line(alloc: Global, line: &[u8]) -> Result<Reading<'_>, Stop<SyntaxAt>>
+    ensures sound { IfOk result
+        (λ reading. Line (words_of version_type.One) line.now (reading_view reading)) }
+    ensures one { (said : Said) → Line (words_of version_type.One) line.now said
+        → IfOk result (λ reading. reading_view reading ≡ said) }
     ensures offset { IfErr result (IsStopOf (Line (words_of version_type.One)) line.now) }
 {
     read_line_in(alloc, line, Version::One)

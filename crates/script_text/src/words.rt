@@ -4,13 +4,15 @@ ghost use Rattle.std.specs.declared.result.Result.{Result};
 ghost use Rattle.span_text.specs.Gives.{Gives};
 ghost use Rattle.span_text.specs.Reading.{tried};
 ghost use Rattle.script_text.specs.Directions.{leading, trailing, turned};
-ghost use Rattle.script_text.specs.Grammar.{alignments, attributes, directions, first_words, new_words, over};
-ghost use Rattle.script_text.specs.Grammar.{word_text, words_of};
+ghost use Rattle.script_text.specs.Grammar.{alignments, attributes, change_words, changing_words, directions};
+ghost use Rattle.script_text.specs.Grammar.{first_words, new_change_words, over, plain_words, word_text};
+ghost use Rattle.script_text.specs.Grammar.{words_of};
+ghost use Rattle.script_text.specs.LineReading.{as_first};
 ghost use Rattle.script_text.specs.declared.words.Keyword as keyword_type;
 
 use span_text::pieces::or_else;
 
-/// The first word of a line.
+/// The word of a command.
 #[derive(Clone, Copy)]
 pub enum Keyword {
     View,
@@ -32,6 +34,13 @@ pub enum Keyword {
     Direction,
     Size,
     Unsize,
+}
+
+/// The first word of a line: that of a command, or the one that asks why a command would clash.
+#[derive(Clone, Copy)]
+pub enum FirstWord {
+    Command(Keyword),
+    Why,
 }
 
 /// The version of a script, which says what commands there are.
@@ -126,21 +135,16 @@ impl AttrWord {
     }
 }
 
-// A first word that each version has, and the text at once behind it; or what the other words answer.
-fn old_word<'a>(
+// The word of a command that makes a change, in each version, and the text at once behind it; or what the
+// other words answer.
+fn change_word<'a>(
     text: &'a [u8],
     other: Result<(Keyword, &'a [u8]), usize>,
 ) -> Result<(Keyword, &'a [u8]), usize>
     ensures { (r : Result (keyword_type.Keyword × List ℕ) ℕ) → Gives (λ p. (p.0, p.1.now)) other.entry r
-        → Gives (λ p. (p.0, p.1.now)) result (over first_words text.now r) }
+        → Gives (λ p. (p.0, p.1.now)) result (over change_words text.now r) }
 {
-    let found = or_else(b"certify", Keyword::Certify, text, other);
-    let found = or_else(b"diagnose", Keyword::Diagnose, text, found);
-    let found = or_else(b"rows", Keyword::Rows, text, found);
-    let found = or_else(b"frames", Keyword::Frames, text, found);
-    let found = or_else(b"budget", Keyword::Budget, text, found);
-    let found = or_else(b"undo", Keyword::Undo, text, found);
-    let found = or_else(b"release", Keyword::Release, text, found);
+    let found = or_else(b"release", Keyword::Release, text, other);
     let found = or_else(b"suggest", Keyword::Suggest, text, found);
     let found = or_else(b"remove", Keyword::Remove, text, found);
     let found = or_else(b"constrain", Keyword::Constrain, text, found);
@@ -152,22 +156,72 @@ fn old_word<'a>(
     or_else(b"view", Keyword::View, text, found)
 }
 
-// A first word that version 2 has besides, and the text at once behind it.
-fn new_word(text: &[u8]) -> Result<(Keyword, &[u8]), usize>
-    ensures { Gives (λ p. (p.0, p.1.now)) result (tried new_words text.now) }
+// The word of another command of each version, and the text at once behind it; or what the other words
+// answer.
+fn plain_word<'a>(
+    text: &'a [u8],
+    other: Result<(Keyword, &'a [u8]), usize>,
+) -> Result<(Keyword, &'a [u8]), usize>
+    ensures { (r : Result (keyword_type.Keyword × List ℕ) ℕ) → Gives (λ p. (p.0, p.1.now)) other.entry r
+        → Gives (λ p. (p.0, p.1.now)) result (over plain_words text.now r) }
+{
+    let found = or_else(b"certify", Keyword::Certify, text, other);
+    let found = or_else(b"diagnose", Keyword::Diagnose, text, found);
+    let found = or_else(b"rows", Keyword::Rows, text, found);
+    let found = or_else(b"frames", Keyword::Frames, text, found);
+    let found = or_else(b"budget", Keyword::Budget, text, found);
+    or_else(b"undo", Keyword::Undo, text, found)
+}
+
+// The word of a command that makes a change, of those that version 2 has besides, and the text at once behind
+// it.
+fn new_change_word(text: &[u8]) -> Result<(Keyword, &[u8]), usize>
+    ensures { Gives (λ p. (p.0, p.1.now)) result (tried new_change_words text.now) }
 {
     let found = or_else(b"unsize", Keyword::Unsize, text, Err(text.len()));
     let found = or_else(b"size", Keyword::Size, text, found);
     or_else(b"direction", Keyword::Direction, text, found)
 }
 
+/// The word of a command of version 2 that makes a change, and the text at once behind it.
+pub fn changing_word(text: &[u8]) -> Result<(Keyword, &[u8]), usize>
+    ensures { Gives (λ p. (p.0, p.1.now)) result (tried changing_words text.now) }
+{
+    change_word(text, new_change_word(text))
+}
+
+// The word of a command of version 1, and the text at once behind it; or what the other words answer.
+fn old_word<'a>(
+    text: &'a [u8],
+    other: Result<(Keyword, &'a [u8]), usize>,
+) -> Result<(Keyword, &'a [u8]), usize>
+    ensures { (r : Result (keyword_type.Keyword × List ℕ) ℕ) → Gives (λ p. (p.0, p.1.now)) other.entry r
+        → Gives (λ p. (p.0, p.1.now)) result (over first_words text.now r) }
+{
+    change_word(text, plain_word(text, other))
+}
+
+// A command's word as the first of a line.
+fn first_of<'a>(command: Result<(Keyword, &'a [u8]), usize>) -> Result<(FirstWord, &'a [u8]), usize>
+    ensures { (r : Result (keyword_type.Keyword × List ℕ) ℕ) → Gives (λ p. (p.0, p.1.now)) command.entry r
+        → Gives (λ p. (p.0, p.1.now)) result (as_first r) }
+{
+    match command {
+        Ok((word, rest)) => Ok((FirstWord::Command(word), rest)),
+        Err(left) => Err(left),
+    }
+}
+
 /// The first word of a line of this version, and the text at once behind it.
-pub fn first_word(text: &[u8], version: Version) -> Result<(Keyword, &[u8]), usize>
+pub fn first_word(text: &[u8], version: Version) -> Result<(FirstWord, &[u8]), usize>
     ensures { Gives (λ p. (p.0, p.1.now)) result (tried (words_of version) text.now) }
 {
     match version {
-        Version::One => old_word(text, Err(text.len())),
-        Version::Two => old_word(text, new_word(text)),
+        Version::One => first_of(old_word(text, Err(text.len()))),
+        Version::Two => {
+            let command = first_of(old_word(text, new_change_word(text)));
+            or_else(b"why", FirstWord::Why, text, command)
+        }
     }
 }
 

@@ -3,11 +3,14 @@ pub mod Carried
 pub mod Chains
 pub mod Diagnosed
 pub mod Drafts
+pub mod Explained
 pub mod LeavingSteps
 pub mod LineStops
+pub mod Rising
 pub mod Rooms
 pub mod SizeSteps
 pub mod Steps
 pub mod SuggestionSteps
 pub mod TreeChains
 pub mod TreeInstances
+pub mod TreeLimits

@@ -26,7 +26,8 @@ drafted old (draft.Turn to) = with_direction old to
 
 -- the scene can step to it
 abbrev pub MayTake : Scene → Draft → Type 0
-MayTake old (draft.Views new) = AreComing old new × HasRoomFor old (VIEW_ROWS * new.count)
+MayTake old (draft.Views new) =
+    AreComing old new × HasRoomFor old (VIEW_ROWS * new.count) × (new.tree.most ≡ old.tree.most)
 MayTake old (draft.Update update) = MayUpdate old update
 MayTake old (draft.ViewsOut gone) = (root : ℕ) × (root ≢ 0) × AreGoing old.tree.views root gone.items
 MayTake old (draft.GroupOut group) = Unit {0}

@@ -1,6 +1,8 @@
 pub mod Adding
 pub mod Asking
 pub mod Constants
+pub mod Explained
+pub mod Explaining
 pub mod Kept
 pub mod Machine
 pub mod Probed

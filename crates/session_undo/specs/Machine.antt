@@ -85,7 +85,8 @@ pub record Accepts (draft : Scene) (old : State) (reply : Reply) (new : State) :
   pub done : reply ≡ Done
   pub path : Path
   pub solved : IsSolved old.scene draft old.budget path new.scene
-  pub kept : new ≡ record old { scene = new.scene; earlier = with_earlier old.scene old.earlier }
+  pub kept : new
+      ≡ record old { scene = new.scene; earlier = with_earlier old.limits.undo old.scene old.earlier }
 
 -- the required rows of the draft have no solution, as multipliers of them show
 pub record Conflicts (draft : Scene) (old : State) (reply : Reply) (new : State) : Type 0 where
@@ -124,7 +125,7 @@ pub record Stands (old : State) (draft : Scene) (reply : Reply) (new : State) : 
   pub done : reply ≡ Done
   pub rows : AreDraftRows draft draft.rows
   pub best : IsBestScene draft
-  pub kept : new ≡ record old { scene = draft; earlier = with_earlier old.scene old.earlier }
+  pub kept : new ≡ record old { scene = draft; earlier = with_earlier old.limits.undo old.scene old.earlier }
 
 -- ---- leaving
 
@@ -132,7 +133,8 @@ pub record Stands (old : State) (draft : Scene) (reply : Reply) (new : State) : 
 pub record Leaves (draft : Scene) (old : State) (reply : Reply) (new : State) : Type 0 where
   pub done : reply ≡ Done
   pub left : HasLeft old.scene draft old.budget new.scene
-  pub kept : new ≡ record old { scene = new.scene; earlier = with_earlier old.scene old.earlier }
+  pub kept : new
+      ≡ record old { scene = new.scene; earlier = with_earlier old.limits.undo old.scene old.earlier }
 
 -- where rows are still held they are told
 abbrev pub still_place : List ℕ → Place

@@ -2,12 +2,15 @@
 use Rattle.std.specs.Prelude.{ℕ, Bool, true, false, List, ⊤, IfOk, IfErr}
 use Rattle.std.specs.declared.result.Result.{Result}
 use Rattle.std.specs.declared.result.Result.TheVariants.{Ok, Err}
+use Rattle.frac_core.specs.Fraction.{Fraction}
 use Rattle.problem_core.specs.declared.stops.Quantity.{Quantity}
 use Rattle.name_tables.specs.declared.stops.LimitWord.{LimitWord}
 use Rattle.compile_parts.specs.declared.stops.KindWord.{KindWord}
 use Rattle.cert_core.specs.declared.by.By.{By}
 use Rattle.cert_core.specs.Claims.{BestLevel}
 use Rattle.cert_core.specs.Paths.{Path}
+use Rattle.conflict_core.specs.declared.found.Found.{Found}
+use Rattle.conflict_core.specs.declared.found.Found.TheVariants as found
 use Rattle.diagnosis.specs.Diagnoses.{Findings, findings_of}
 use Rattle.session_undo.specs.State.{State}
 use Rattle.session_undo.specs.declared.reply.Reply as answer
@@ -18,24 +21,28 @@ use Rattle.session_undo.specs.declared.reply.Refusal.{Refusal}
 use Rattle.session_undo.specs.declared.reply.Refusal.TheVariants as refusal
 
 -- what had stopped: the run over the command's own problem, or that of a removal while these rows were still
--- held, or a probe of this attribute, up or down
+-- held, or a probe of this attribute, up or down, or the trial of these rows
 pub data Place : Type 0 where
   Step : Place
   Still : List ℕ → Place
   Probe : ℕ → Bool → Place
+  Held : List ℕ → Place
 
 -- what a stop's place in the code stands for
 abbrev pub place_of : StopPlace → Place
 place_of place.Step = Step
 place_of (place.Still ids) = Still ids.items
 place_of (place.Probe attr up) = Probe attr up
+place_of (place.Held ids) = Held ids.items
 
 -- `Nothing` to a blank line or a comment, `Done` to a change, `Frames`, `Rows`, `Certificate`, with the
--- multipliers of each level, and `Diagnosed`, with what is found of the scene, to questions, and the
--- refusals: where the line leaves the grammar, the unknown or taken name, the limit, the wrong use, the
--- multipliers of the required rows, that there is no earlier scene; and, each with what had stopped, the path
--- with the quantity that doesn't fit at its end, and the path that uses up the exchanges; and the attribute
--- of a probe whose wished value doesn't fit, up or down
+-- multipliers of each level, and `Diagnosed`, with what is found of the scene, to questions; to the question
+-- why a command would clash `Solvable`, where its problem has a solution, or `Core`, with rows that clash,
+-- their multipliers, and for each row values that satisfy the others; and the refusals: where the line leaves
+-- the grammar, the unknown or taken name, the limit, the wrong use, the multipliers of the required rows, that
+-- there is no earlier scene; and, each with what had stopped, the path with the quantity that doesn't fit at
+-- its end, and the path that uses up the exchanges; and the attribute of a probe whose wished value doesn't
+-- fit, up or down
 pub data Reply : Type 0 where
   Nothing : Reply
   Done : Reply
@@ -43,6 +50,8 @@ pub data Reply : Type 0 where
   Rows : Reply
   Certificate : List BestLevel → Reply
   Diagnosed : Findings → Reply
+  Solvable : Reply
+  Core : List ℕ → List By → List (ℕ × List (ℕ × Fraction)) → Reply
   Outside : ℕ → Reply
   Unknown : List ℕ → Reply
   Taken : List ℕ → Reply
@@ -62,6 +71,8 @@ is_accepted Frames = true
 is_accepted Rows = true
 is_accepted (Certificate levels) = true
 is_accepted (Diagnosed findings) = true
+is_accepted Solvable = true
+is_accepted (Core ids by values) = true
 is_accepted (Outside at) = false
 is_accepted (Unknown name) = false
 is_accepted (Taken name) = false
@@ -73,6 +84,11 @@ is_accepted (Overflow place path quantity) = false
 is_accepted (Spent place path) = false
 is_accepted (NoTarget attr up) = false
 
+-- what is told of the required rows of a problem
+abbrev pub found_reply : Found → Reply
+found_reply found.Solvable = Solvable
+found_reply (found.Core rows by without) = Core rows.items by without.items
+
 -- what a reply of the code to an accepted command stands for
 abbrev pub accepted : answer.Reply → Reply
 accepted good.Silent = Nothing
@@ -81,6 +97,7 @@ accepted good.Frames = Frames
 accepted good.Rows = Rows
 accepted (good.Certificate levels) = Certificate levels
 accepted (good.Diagnosed d) = Diagnosed (findings_of d)
+accepted (good.Why f) = found_reply f
 
 -- the refusal is one that F allows, or what ends the run
 abbrev pub MayRefuse : (Reply → Type 0) → Refusal → Type 0
@@ -131,4 +148,5 @@ IsChange (Ok good.Frames) = ⊥
 IsChange (Ok good.Rows) = ⊥
 IsChange (Ok (good.Certificate levels)) = ⊥
 IsChange (Ok (good.Diagnosed d)) = ⊥
+IsChange (Ok (good.Why f)) = ⊥
 IsChange (Err refusal) = ⊥

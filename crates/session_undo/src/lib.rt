@@ -16,7 +16,8 @@
 //!
 //! The contract of [`Session::apply`] is a step of a machine that is described without any code
 //! (`specs/Machine.antt`): which causes refuse a command, in their order, and what scene an accepted one
-//! leads to.
+//! leads to. A line may also ask why a command would clash: the causes are then those of the command, and the
+//! problem that it would solve is explained (`specs/Explaining.antt`), which changes nothing.
 //!
 //! What solves a draft, and what a problem is of, is the scene's (`scenes`): a session finds the causes
 //! against a command, and tells what the scene's step came to.

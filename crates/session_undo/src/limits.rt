@@ -1,7 +1,7 @@
 // How much a session may hold, and how far a run may go.
 ghost use Rattle.session_undo.specs.Constants.{ConstantsAreAsSaid};
 
-use held_items::MOST_ROWS;
+use held_items::{EARLIER, MOST_ROWS};
 use view_tree::VIEW_LIMIT;
 
 /// How many lines of groups a new session may hold.
@@ -10,12 +10,13 @@ pub const MOST_LINES: usize = 2_000;
 /// How many exchanges a run may be allowed.
 pub const BUDGET_LIMIT: u64 = 1_000_000_000_000_000_000;
 
-/// How many views, lines of groups and rows there may be.
+/// How many views, lines of groups and rows there may be, and how many earlier scenes.
 #[derive(Clone, Copy, Debug, PartialEq, Eq)]
 pub struct Limits {
     pub views: usize,
     pub lines: usize,
     pub rows: usize,
+    pub undo: usize,
 }
 
 /// The limits of a new session.
@@ -23,6 +24,7 @@ pub const FIRST_LIMITS: Limits = Limits {
     views: VIEW_LIMIT,
     lines: MOST_LINES,
     rows: MOST_ROWS,
+    undo: EARLIER,
 };
 
 /// The constants that definitions and clauses cite by name are these numbers.

@@ -3,12 +3,14 @@ ghost use Rattle.std.specs.Prelude.{◌≡◌, ℕ, List};
 ghost use Rattle.view_tree.specs.JsonStops.{MayStayOut};
 ghost use Rattle.session_undo.specs.Adding.{refusal_of, answer_of, IsLeftAnswer, NoEnd, TellsStop};
 ghost use Rattle.session_undo.specs.Machine.{TriedTree};
+ghost use Rattle.session_undo.specs.Explained.{core_refusal};
 ghost use Rattle.session_undo.specs.Probed.{probe_refusal};
 ghost use Rattle.session_undo.specs.Replies.{MayRefuse};
 ghost use Rattle.session_undo.specs.State.{State};
 
 use cert_core::{Best, Conflict, Path, RunStop, UnfitPath};
 use compile_parts::KindWord;
+use conflict_core::{CoreStop, Found};
 use diagnosis::{DiagnoseStop, Diagnosis};
 use frac_core::OutOfMemory;
 use layout_solver::RemoveStop;
@@ -32,6 +34,8 @@ pub enum Reply {
     Certificate(Best),
     /// What the layout lacks, and what it leaves open.
     Diagnosed(Diagnosis),
+    /// What the required rows of a command's problem come to.
+    Why(Found),
 }
 
 /// There is no earlier scene.
@@ -48,6 +52,8 @@ pub enum StopPlace {
     Still(Vec<u32>),
     /// The probe that wishes this attribute at the next value, above or below.
     Probe { attr: u32, up: bool },
+    /// The trial of these rows.
+    Held(Vec<u32>),
 }
 
 /// Why a line is refused. Then all is as before.
@@ -199,5 +205,22 @@ pub fn probe_refusal(attr: u32, stop: DiagnoseStop) -> Refusal
         },
         DiagnoseStop::Target { up } => Refusal::NoTarget { attr, up },
         DiagnoseStop::OutOfMemory => Refusal::OutOfMemory,
+    }
+}
+
+/// The refusal for what stops a trial.
+pub fn core_refusal(stop: CoreStop) -> Refusal
+    ensures { result ≡ core_refusal stop }
+{
+    match stop {
+        CoreStop::Unfit { held, at } => Refusal::Overflow {
+            place: StopPlace::Held(held),
+            at,
+        },
+        CoreStop::Spent { held, path } => Refusal::Spent {
+            place: StopPlace::Held(held),
+            path,
+        },
+        CoreStop::OutOfMemory => Refusal::OutOfMemory,
     }
 }

@@ -8,9 +8,10 @@ use crate::changes::{Pulls, Ranks, later_intrinsic, parent_or_window, put_metric
 use crate::draft::Draft;
 use crate::limits::{BUDGET_LIMIT, FIRST_LIMITS, Limits};
 use crate::reply::{
-    NoEarlier, Refusal, Reply, answer_of, left_answer, probe_refusal, tree_refusal,
+    NoEarlier, Refusal, Reply, answer_of, core_refusal, left_answer, probe_refusal, tree_refusal,
 };
 use compile_parts::{CompileStop, KindWord, resolve_rank};
+use conflict_core::core;
 use constraint_compile::{
     Compiled, Suggestion, USUAL_RANK, compile_line, priority_or, suggested_constant,
 };
@@ -25,7 +26,7 @@ use layout_solver::Engine;
 use name_tables::{LimitWord, Metrics, NAME_LIMIT, OwnedName};
 use problem_core::{NUMBER_LIMIT, Problem, Values};
 use scenes::{FIRST_BUDGET, NewLine, NewMetrics, Scene, Update, values_of};
-use script_text::{Align, AttrWord, Command, Linear, Version};
+use script_text::{Align, AttrWord, Command, Linear, Reading, Version};
 use span_text::Object;
 use std::alloc::Global;
 use std::marker::Model;
@@ -52,22 +53,22 @@ pub struct Session {
 
 impl Model for Session {
     ghost use Rattle.session_undo.specs.State.{State};
-    ghost use Rattle.session_undo.specs.Kept.{AreWithin, limits_of, session_at};
+    ghost use Rattle.session_undo.specs.Kept.{AreLimitsOf, AreWithin, limits_of, session_at};
 
     ghost Value = { State };
 
     ghost view = { λ s. session_at s.scene s.budget s.limits s.version };
 
-    ghost invariant = { λ s. AreWithin (limits_of s.limits) };
+    ghost invariant = { λ s. AreWithin (limits_of s.limits) × AreLimitsOf s.scene (limits_of s.limits) };
 }
 
 impl Session {
     ghost use Rattle.script_text.specs.Directions.{line_in};
-    ghost use Rattle.script_text.specs.View.{linear_view, view};
+    ghost use Rattle.script_text.specs.View.{linear_view, reading_view, view};
     ghost use Rattle.vfl_text.specs.View.{meaning};
     ghost use Rattle.view_tree.specs.JsonStops as json;
     ghost use Rattle.view_tree.specs.Views.{view_of};
-    ghost use Rattle.scenes.specs.Scene.{metrics_with};
+    ghost use Rattle.scenes.specs.Scene.{metrics_with, problem_of};
     ghost use Rattle.constraint_compile.specs.Compiled.{AreSmallForms};
     ghost use Rattle.constraint_compile.specs.Stops.{IsCompiled};
     ghost use Rattle.format_compile.specs.FormatRows.{IsCompiledFormat};
@@ -79,8 +80,8 @@ impl Session {
     ghost use Rattle.session_undo.specs.Adding.{IsLineLimit, IsSuggestionFor, IsSuggestionOf, NoEnd, NoOther};
     ghost use Rattle.session_undo.specs.Adding.{IsViewMore, StopStep, SuggestStep, UnlessUnfree, ViewStep};
     ghost use Rattle.scenes.specs.Frames.{IsFrameOf};
-    ghost use Rattle.session_undo.specs.Kept.{AreWithin};
-    ghost use Rattle.session_undo.specs.State.{IsFirst, IsFirstOf};
+    ghost use Rattle.session_undo.specs.Kept.{AreWithin, limits_of};
+    ghost use Rattle.session_undo.specs.State.{IsFirst, IsFirstOf, IsFirstWith};
     ghost use Rattle.session_undo.specs.Replies.{Accepting, Done, Limit, MayRefuse, Refusing};
     ghost use Rattle.held_items.specs.Items.{has_size};
     ghost use Rattle.session_undo.specs.Machine.{AreTooMany, Certifies, Diagnoses, IsCrowded, IsTaken, Keeps};
@@ -94,6 +95,8 @@ impl Session {
     ghost use Rattle.session_undo.specs.Adding.{AreRanks, IsFreeIntrinsic, IsHeldIntrinsic, IsIntrinsicFor};
     ghost use Rattle.session_undo.specs.Adding.{SizeStep};
     ghost use Rattle.scenes.specs.Steps.{IsProblemOf};
+    ghost use Rattle.conflict_core.specs.Trials.{HasRisingStays};
+    ghost use Rattle.session_undo.specs.Explaining.{Explains, SaidStep, WhyStep};
     ghost use Rattle.held_items.specs.Moving.{FitsAfter};
     ghost use Rattle.compile_parts.specs.Meaning.{IsRank, unknown_object};
     ghost use Rattle.constraint_compile.specs.Suggestions.{priority_or, suggested_priority};
@@ -116,13 +119,29 @@ impl Session {
     pub fn with_version(alloc: Global, version: Version) -> Result<Session, OutOfMemory>
         ensures { IfOk result (IsFirstOf version) }
     {
+        Session::with(alloc, version, FIRST_LIMITS)
+    }
+
+    /// The same with other limits.
+    pub fn with(alloc: Global, version: Version, limits: Limits) -> Result<Session, OutOfMemory>
+        requires { AreWithin (limits_of limits) }
+        ensures { IfOk result (IsFirstWith (limits_of limits) version) }
+    {
         Ok(Session {
-            scene: Scene::new(alloc)?,
+            scene: Scene::with(alloc, limits.views as u32, limits.undo)?,
             budget: FIRST_BUDGET,
-            limits: FIRST_LIMITS,
+            limits,
             version,
             alloc,
         })
+    }
+
+    /// How much may be held.
+    pub fn limits(&self) -> Limits
+        ensures value { limits_of result ≡ self.now.limits }
+        ensures within { AreWithin (limits_of result) }
+    {
+        self.limits
     }
 
     /// The version of the script, by whose grammar lines are to be read.
@@ -779,15 +798,25 @@ impl Session {
         }
     }
 
+    // The scene's problem.
+    fn scene_problem(&self) -> Result<Problem, OutOfMemory>
+        ensures is { IfOk result (λ p. p ≡ problem_of self.now.scene) }
+        ensures rising { IfOk result HasRisingStays }
+    {
+        self.scene.show_stays(); // for the proof: what a scene keeps
+        self.scene.problem()
+    }
+
     // The scene's problem, where there is an earlier scene.
     fn undo_problem(&self) -> Result<Problem, Refusal>
         ensures posed { IfOk result (λ p. TriedUndo self.now (PosesScene self.now p) Done self.now) }
+        ensures rising { IfOk result HasRisingStays }
         ensures refused { Refusing (TriedUndo self.now NoOther) self.now result }
     {
         if !self.scene.has_earlier() {
             return Err(Refusal::NoEarlier);
         }
-        Ok(self.scene.problem()?)
+        Ok(self.scene_problem()?)
     }
 
     // Each run may make so many exchanges.
@@ -819,12 +848,13 @@ impl Session {
     fn budget_problem(&self, exchanges: u64) -> Result<Problem, Refusal>
         ensures posed { IfOk result
             (λ p. TriedBudget self.now exchanges (PosesScene self.now p) Done self.now) }
+        ensures rising { IfOk result HasRisingStays }
         ensures refused { Refusing (TriedBudget self.now exchanges NoOther) self.now result }
     {
         if is_no_budget(exchanges) {
             return Err(Refusal::Limit(LimitWord::Budget));
         }
-        Ok(self.scene.problem()?)
+        Ok(self.scene_problem()?)
     }
 
     // What a session keeps, for proofs.
@@ -1036,8 +1066,10 @@ impl Session {
     // The problem of a draft.
     fn pose(&self, draft: Draft) -> Result<Problem, OutOfMemory>
         requires { MayTake self.now.scene draft }
-        ensures { IfOk result (IsProblemOf (drafted self.now.scene draft)) }
+        ensures posed { IfOk result (IsProblemOf (drafted self.now.scene draft)) }
+        ensures rising { IfOk result HasRisingStays }
     {
+        self.scene.show_stays(); // for the proof: what a scene keeps
         match draft {
             Draft::Views(new) => self.scene.views_problem(&new),
             Draft::Update(update) => self.scene.update_problem(update),
@@ -1072,6 +1104,7 @@ impl Session {
     fn plain_problem(&self, command: &Command<'_>) -> Result<Problem, Refusal>
         requires { kind_for (view command.now) ≡ Plain }
         ensures posed { IfOk result (Poses self.now (view command.now)) }
+        ensures rising { IfOk result HasRisingStays }
         ensures refused { Refusing (Tried self.now (view command.now) NoEnd NoOther) self.now result }
     {
         match command {
@@ -1081,7 +1114,7 @@ impl Session {
             | Command::Frames
             | Command::Rows
             | Command::Diagnose
-            | Command::Certify => Ok(self.scene.problem()?),
+            | Command::Certify => Ok(self.scene_problem()?),
             _ => unreachable!(),
         }
     }
@@ -1091,6 +1124,7 @@ impl Session {
     /// command before it solves. It makes the problem, which nothing holds, from copies of the rows.
     pub fn step_problem(&self, command: &Command<'_>) -> Result<Problem, Refusal>
         ensures posed { IfOk result (Poses self.now (view command.now)) }
+        ensures rising { IfOk result HasRisingStays }
         ensures refused { Refusing (Tried self.now (view command.now) NoEnd NoOther) self.now result }
     {
         match self.draft(command)? {
@@ -1099,15 +1133,50 @@ impl Session {
         }
     }
 
-    /// Does what a command says: the step of the machine. After a refusal all is as before.
-    pub fn apply(&mut self, command: Command<'_>) -> Result<Reply, Refusal>
-        ensures accepted { Accepting (MeaningStep self.old (view command.entry)) self.new result }
-        ensures refused { Refusing (MeaningStep self.old (view command.entry)) self.old result }
+    // Does what a command says.
+    fn act(&mut self, command: &Command<'_>) -> Result<Reply, Refusal>
+        ensures accepted { Accepting (MeaningStep self.old (view command.now)) self.new result }
+        ensures refused { Refusing (MeaningStep self.old (view command.now)) self.old result }
         ensures same { OnErr result (self.new ≡ self.old) }
     {
-        match self.draft(&command)? {
+        match self.draft(command)? {
             Some(draft) => self.take(draft),
-            None => self.answer(&command),
+            None => self.answer(command),
+        }
+    }
+
+    // What the required rows of a problem come to.
+    fn explained(&self, p: &Problem) -> Result<Reply, Refusal>
+        requires rising { HasRisingStays p.now }
+        ensures accepted { Accepting (Explains self.now p.now) self.now result }
+        ensures refused { Refusing (Explains self.now p.now) self.now result }
+    {
+        p.show_whole(); // for the proof: what a problem keeps
+        match core(self.alloc, p, self.budget) {
+            Ok(found) => Ok(Reply::Why(found)),
+            Err(stop) => Err(core_refusal(stop)),
+        }
+    }
+
+    // Why a command would clash, if it would.
+    fn explain(&self, command: &Command<'_>) -> Result<Reply, Refusal>
+        ensures accepted { Accepting (WhyStep self.now (view command.now)) self.now result }
+        ensures refused { Refusing (WhyStep self.now (view command.now)) self.now result }
+    {
+        let problem = self.step_problem(command)?;
+        self.explained(&problem)
+    }
+
+    /// Does what a line says: the step of the machine. What is asked changes nothing. After a refusal all is
+    /// as before.
+    pub fn apply(&mut self, reading: Reading<'_>) -> Result<Reply, Refusal>
+        ensures accepted { Accepting (SaidStep self.old (reading_view reading.entry)) self.new result }
+        ensures refused { Refusing (SaidStep self.old (reading_view reading.entry)) self.old result }
+        ensures same { OnErr result (self.new ≡ self.old) }
+    {
+        match &reading {
+            Reading::Command(command) => self.act(command),
+            Reading::Why(command) => self.explain(command),
         }
     }
 

@@ -6,3 +6,4 @@ pub mod PathsAccepted
 pub mod UnfitInstance
 pub mod Instances
 pub mod Steps
+pub mod CoresAccepted

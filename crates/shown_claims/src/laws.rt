@@ -3,6 +3,7 @@ ghost use Rattle.shown_claims.specs.Shown.{CertificatesAreAccepted, CertifiedIsN
 ghost use Rattle.shown_claims.specs.Shown.{ConflictsAreAccepted, ShownIsJudged};
 ghost use Rattle.shown_claims.specs.Shown.{SomeAreShown, SpentPathsAreAccepted, UnfitPathsAreAccepted};
 ghost use Rattle.shown_claims.specs.Steps.{LeavingStopsAreAccepted, StepStopsAreAccepted};
+ghost use Rattle.shown_claims.specs.Cores.{CoresAreAccepted, TrialStopsAreAccepted};
 
 /// The lines of a problem and of a claim on it are judged as just these: no line is outside the form, and the
 /// answer is the verdict on this claim.
@@ -34,6 +35,13 @@ pub fn step_stops_are_accepted()
 /// So is what each stop of a removal shows, in the problem of the rows that are left or still held.
 pub fn leaving_stops_are_accepted()
     ensures { LeavingStopsAreAccepted }
+{}
+
+/// So are the multipliers of a core, with its rows alone, and what each stop of a trial shows, with the rows
+/// that are held.
+pub fn cores_are_accepted()
+    ensures cores { CoresAreAccepted }
+    ensures stops { TrialStopsAreAccepted }
 {}
 
 /// Of some problems best values, a conflict, a path to what does not fit, and one that has used its budget up

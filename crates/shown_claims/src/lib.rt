@@ -21,7 +21,7 @@
 mod laws;
 
 pub use laws::{
-    certificates_are_accepted, certified_is_not_enough, conflicts_are_accepted,
+    certificates_are_accepted, certified_is_not_enough, conflicts_are_accepted, cores_are_accepted,
     leaving_stops_are_accepted, paths_are_accepted, shown_is_judged, some_are_shown,
     step_stops_are_accepted,
 };

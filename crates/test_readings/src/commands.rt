@@ -2,8 +2,8 @@
 use crate::formats::{put_stop, put_written};
 use frac_core::{Frac, OutOfMemory};
 use script_text::{
-    Align, AttrWord, Command, Direction, ExprTerm, Linear, Operand, Version, is_version_line,
-    read_line_in,
+    Align, AttrWord, Command, Direction, ExprTerm, Linear, Operand, Reading, Version,
+    is_version_line, read_line_in,
 };
 use span_text::{Object, UNIT};
 use std::alloc::Global;
@@ -265,6 +265,17 @@ fn put_command(alloc: Global, out: &mut String, command: &Command<'_>) -> Result
     }
 }
 
+// Appends the reading of a command, or of a question about one.
+fn put_reading(alloc: Global, out: &mut String, reading: &Reading<'_>) -> Result<(), OutOfMemory> {
+    match reading {
+        Reading::Command(command) => put_command(alloc, out, command),
+        Reading::Why(command) => {
+            write!(out, "why ")?;
+            put_command(alloc, out, command)
+        }
+    }
+}
+
 /// Appends the reading of a line of a script of this version, or where it leaves the grammar.
 pub fn put_line(
     alloc: Global,
@@ -273,7 +284,7 @@ pub fn put_line(
     version: Version,
 ) -> Result<(), OutOfMemory> {
     match read_line_in(alloc, line, version) {
-        Ok(command) => put_command(alloc, out, &command),
+        Ok(reading) => put_reading(alloc, out, &reading),
         Err(stop) => put_stop(out, stop),
     }
 }

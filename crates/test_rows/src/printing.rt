@@ -7,7 +7,7 @@ use format_compile::{compile_format, format_row_count};
 use frac_core::{Frac, OutOfMemory, Stop};
 use name_tables::LimitWord;
 use problem_core::Row;
-use script_text::{Align, Command, Direction, Linear, Version, read_line_in};
+use script_text::{Align, Command, Direction, Linear, Reading, Version, read_line_in};
 use span_text::SyntaxAt;
 use std::alloc::Global;
 use vfl_text::Format;
@@ -176,7 +176,8 @@ fn put_line(
     before: usize,
 ) -> Result<usize, OutOfMemory> {
     match read_line_in(alloc, line, Version::Two) {
-        Ok(command) => put_command(alloc, out, setting, &command),
+        Ok(Reading::Command(command)) => put_command(alloc, out, setting, &command),
+        Ok(Reading::Why(_)) => put_another(out),
         Err(Stop::Refused(SyntaxAt(at))) => put_outside(out, at.saturating_sub(before)),
         Err(Stop::OutOfMemory) => Err(OutOfMemory),
     }

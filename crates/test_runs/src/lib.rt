@@ -21,10 +21,12 @@
 //! session.
 //!
 //! In reading order: `tested` (what is asked of a program, a checker and a session), `lines`, `options`,
-//! `inputs`, `runs`, `table` (each call fails in turn); `verdicts` (what the checker says), `drawn_lines`,
-//! `drawing`, `sessions`; `stops`, `posed` (the problem that a path speaks of), `wishes`, `paths`.
+//! `inputs`, `runs`, `table` (each call fails in turn); `verdicts` (what the checker says), `cores`,
+//! `drawn_lines`, `drawing`, `sessions`; `stops`, `posed` (the problem that a path speaks of), `wishes`,
+//! `paths`.
 #![tactic(auto)]
 
+mod cores;
 mod drawing;
 mod drawn_lines;
 mod inputs;

@@ -1,4 +1,5 @@
 // Lines of problems and replies, as text.
+use frac_core::OutOfMemory;
 
 /// The bytes as a text, which is empty where they are none.
 pub fn text_of(bytes: &[u8]) -> &str {
@@ -16,6 +17,45 @@ pub fn row_number(line: &str) -> Option<&str> {
         Some((number, _)) => Some(number),
         None => None,
     }
+}
+
+/// Whether a line of these is the word with the number of a row behind it.
+pub fn is_named(lines: &str, word: &str, number: &str) -> bool {
+    for line in lines.lines() {
+        if line.strip_prefix(word) == Some(number) {
+            return true;
+        }
+    }
+    false
+}
+
+/// Appends the rows of a problem that lines name by this word, but for one.
+pub fn push_named(
+    text: &mut String,
+    problem: &str,
+    lines: &str,
+    word: &str,
+    but: &str,
+) -> Result<(), OutOfMemory> {
+    for line in problem.lines() {
+        match row_number(line) {
+            Some(number) if number != but && is_named(lines, word, number) => {
+                writeln!(text, "{line}")?;
+            }
+            _ => (),
+        }
+    }
+    Ok(())
+}
+
+/// Appends the stays of a problem, each at 0.
+pub fn push_stays_at_zero(text: &mut String, problem: &str) -> Result<(), OutOfMemory> {
+    for line in problem.lines() {
+        if let Some((attr, _)) = parts(line, "stay ") {
+            writeln!(text, "stay {attr} 0")?;
+        }
+    }
+    Ok(())
 }
 
 /// How many rows the text of a problem has.

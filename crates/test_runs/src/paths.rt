@@ -1,9 +1,9 @@
 // Scripts whose paths are judged.
 //
-// Each line that is refused with a path gives a line: its number, counted from 1; `probe` or `still` where
-// the path is that of a probe, or of a removal with rows still held; `spent`, or the kind of the quantity
-// that doesn't fit; and what the word `check` says of the path beside the problem that it speaks of. `probe
-// target no path` stands where a probe's wish doesn't fit, so that there is no path.
+// Each line that is refused with a path gives a line: its number, counted from 1; `probe`, `still` or `held`
+// where the path is that of a probe, of a removal with rows still held, or of a trial; `spent`, or the kind
+// of the quantity that doesn't fit; and what the word `check` says of the path beside the problem that it
+// speaks of. `probe target no path` stands where a probe's wish doesn't fit, so that there is no path.
 //
 // A refused line leaves its session as before, so what was held when the line came is what is held behind it.
 use crate::lines::text_of;

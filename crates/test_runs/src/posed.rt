@@ -3,8 +3,9 @@
 // - of the step, that of the step; of a quantity `shifts J`, that in which only the first J changed constants
 //   are the new ones;
 // - while rows are still held, the held problem without those rows alone that have gone;
-// - of a probe, the held problem with the row of its wish.
-use crate::lines::row_number;
+// - of a probe, the held problem with the row of its wish;
+// - of a trial, the rows of the step that are named as held, with each stay at 0.
+use crate::lines::{is_named, push_named, push_stays_at_zero, row_number};
 use crate::stops::Stop;
 use crate::wishes::{push_wished, wish_of};
 use frac_core::OutOfMemory;
@@ -50,20 +51,10 @@ fn push_shifted(
     Ok(())
 }
 
-// Whether a line names the row of this number as still held.
-fn is_still(place: &str, number: &str) -> bool {
-    for line in place.lines() {
-        if line.strip_prefix("still ") == Some(number) {
-            return true;
-        }
-    }
-    false
-}
-
 // Whether a line of the held problem is another than that of a row that has gone.
 fn is_left(line: &str, step: &str, place: &str) -> bool {
     match row_number(line) {
-        Some(number) => row_of(step, number).is_some() || is_still(place, number),
+        Some(number) => row_of(step, number).is_some() || is_named(place, "still ", number),
         None => true,
     }
 }
@@ -83,6 +74,12 @@ fn push_left(
     Ok(())
 }
 
+// Appends the rows of the step that are named as held, with each stay at 0.
+fn push_trial(problem: &mut String, step: &str, place: &str) -> Result<(), OutOfMemory> {
+    push_named(problem, step, place, "held ", "")?;
+    push_stays_at_zero(problem, step)
+}
+
 /// Appends the problem that the path of a refusal speaks of, where these are the problem of the step and that
 /// which is held, and the reply to `rows`, which tells the numbers of attributes.
 pub fn push_posed(
@@ -94,6 +91,8 @@ pub fn push_posed(
 ) -> Result<(), OutOfMemory> {
     if let Some(wish) = wish_of(names, held, stop.place) {
         push_wished(problem, held, wish)
+    } else if stop.place.starts_with("held ") {
+        push_trial(problem, step, stop.place)
     } else if !stop.place.is_empty() {
         push_left(problem, stop, step, held)
     } else if let Some(first) = stop.shifts() {

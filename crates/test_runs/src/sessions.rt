@@ -4,9 +4,10 @@
 //
 // - `problem LINE`: the problem that the line would solve;
 // - `judged LINE`: what the line is answered, how a path of its refusal stands to that problem, and what the
-//   word `check` says of a conflict or a certificate;
+//   word `check` says of a conflict, a certificate or a core;
 // - `print ROOM`: the frames, put into a sink with so much room;
 // - `draw SEED COUNT`: the same as `judged`, counted over so many drawn lines.
+use crate::cores::put_core;
 use crate::drawing::put_drawn;
 use crate::lines::{row_count, text_of};
 use crate::tested::{Answer, Kind, Talk};
@@ -63,7 +64,8 @@ fn put_said<T: Talk>(
 ) -> Result<(), OutOfMemory> {
     put_text(out, &answer.text)?;
     put_stop(out, row_count(text_of(problem)), &answer.stop)?;
-    put_verdict::<T>(alloc, out, problem, answer)
+    put_verdict::<T>(alloc, out, problem, answer)?;
+    put_core::<T>(alloc, out, text_of(problem), text_of(&answer.text))
 }
 
 // Appends what a line is answered that would solve this problem, and what is said of the answer.

@@ -24,6 +24,8 @@ impl<'a> Stop<'a> {
             "still "
         } else if self.place.starts_with("probe ") {
             "probe "
+        } else if self.place.starts_with("held ") {
+            "held "
         } else {
             ""
         }

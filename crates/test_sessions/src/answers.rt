@@ -2,7 +2,7 @@
 use crate::tested::push_reply;
 use cert_core::Path;
 use frac_core::OutOfMemory;
-use script_text::{Command, read_line_in};
+use script_text::{Reading, read_line_in};
 use session_undo::{Refusal, Reply, Session, StopPlace};
 use std::alloc::Global;
 use test_runs::{Answer, Kind};
@@ -49,23 +49,23 @@ fn answer_of(
 }
 
 // The reply alone: nothing here needs a clause of `apply`.
-fn reply_to(session: &mut Session, command: Command<'_>) -> Result<Reply, Refusal> {
-    session.apply(command)
+fn reply_to(session: &mut Session, reading: Reading<'_>) -> Result<Reply, Refusal> {
+    session.apply(reading)
 }
 
 fn answer_to(
     alloc: Global,
     session: &mut Session,
-    command: Command<'_>,
+    reading: Reading<'_>,
 ) -> Result<Answer, OutOfMemory> {
-    let reply = reply_to(session, command);
+    let reply = reply_to(session, reading);
     answer_of(alloc, session, &reply)
 }
 
 /// What a line is answered in the session's version.
 pub fn answer(alloc: Global, session: &mut Session, line: &str) -> Result<Answer, OutOfMemory> {
     match read_line_in(alloc, line.as_bytes(), session.version()) {
-        Ok(command) => answer_to(alloc, session, command),
+        Ok(reading) => answer_to(alloc, session, reading),
         Err(_) => Ok(Answer::new(alloc, Kind::Outside)),
     }
 }

@@ -10,7 +10,7 @@ use test_text::{Cases, cases_text, push_escaped};
 struct Headings;
 
 fn version_of(heading: &str) -> Version {
-    match heading == "session 2" {
+    match heading == "session 2" || heading.starts_with("paths 2 ") {
         true => Version::Two,
         false => Version::One,
     }

@@ -2,7 +2,8 @@
 //!
 //! Below a heading `= session` stand the lines that a session of version 1 takes, as `test_runs` says, and
 //! below `= session 2` those that one of version 2 takes. Below a heading `= paths NAME` stands a script of
-//! version 1 whose refusals 7 and 8 are judged by their paths.
+//! version 1 whose refusals 7 and 8 are judged by their paths, and below `= paths 2 NAME` one of version 2,
+//! without its first line.
 //!
 //! What always holds: no case knows of another. Each has a session of its own.
 //!

@@ -156,6 +156,7 @@ module _ (t : ViewTree) (metrics : List (List ℕ × Fraction)) where
     same : (rest : List (List ℕ × List ℕ)) → grown u (ps ++ rest) ≡ grown w rest
     views : w.views ≡ u.views ++ vs
     next : w.next ≡ u.next + count
+    most : w.most ≡ u.most
 
   -- where views of these names on so many tall may go in
   record Holds (u : ViewTree) (before : List (List ℕ)) (up : List ℕ) (parent depth : ℕ) (ns : List (List ℕ)) (count tall : ℕ) : Type 0 where
@@ -168,10 +169,10 @@ module _ (t : ViewTree) (metrics : List (List ℕ × Fraction)) where
     within : depth + tall ≤ 32
     free : AreFree t metrics before ns
     short : AllByRecursion (λ n. length n ≤ 64) ns
-    room : length u.views + count ≤ 200
+    room : length u.views + count ≤ u.most
     ids : u.next + count ≤ 2 ^ 29
 
-  not_full : (u : ViewTree) → length u.views + 1 ≤ 200 → u.next + 1 ≤ 2 ^ 29 → is_full u ≡ false
+  not_full : (u : ViewTree) → length u.views + 1 ≤ u.most → u.next + 1 ≤ 2 ^ 29 → is_full u ≡ false
   not_full u a b = grind (arith, common_steps, a, b)
 
   any-push : (p : List ℕ → Bool) (xs : List (List ℕ)) (x : List ℕ) → list_any p (xs ++ x ∷ []) ≡ false → (list_any p xs ≡ false) × (p x ≡ false)
@@ -247,8 +248,8 @@ module _ (t : ViewTree) (metrics : List (List ℕ × Fraction)) where
       let both_are : mid ++ views_in n parent bs ≡ (before ++ vs) ++ views_in m parent bs = λ i. is i ++ views_in (next i) parent bs in
       e ∙ both_are ∙ append_assoc before vs (views_in m parent bs)
 
-  same_tree : (w u : ViewTree) → w.views ≡ u.views → w.next ≡ u.next → w ≡ u
-  same_tree w u e f = λ i. record { views = e i; next = f i }
+  same_tree : (w u : ViewTree) → w.views ≡ u.views → w.next ≡ u.next → w.most ≡ u.most → w ≡ u
+  same_tree w u e f g = λ i. record { views = e i; next = f i; most = g i }
 
   same_first : (u : ViewTree) (name up : List ℕ) (parent : ℕ) (ps : List (List ℕ × List ℕ)) (w : ViewTree) → id_named u up ≡ parent → grown (with_view u name parent) ps ≡ w
       → grown (with_view u name (id_named u up)) ps ≡ w
@@ -279,6 +280,7 @@ module _ (t : ViewTree) (metrics : List (List ℕ × Fraction)) where
             same = λ rest. same_first u name up parent (pairs_in name inner ++ rest) (grown w rest) h.number (more.1.same rest);
             views = more.1.views ∙ append_assoc u.views (v ∷ []) (views_in (u.next + 1) u.next inner);
             next = omega (arith, more.1.next);
+            most = more.1.most;
           },
         )
 
@@ -293,6 +295,7 @@ module _ (t : ViewTree) (metrics : List (List ℕ × Fraction)) where
         same = λ rest. refl;
         views = sym (append-nil u.views);
         next = omega arith;
+        most = refl;
       },
     )
     grows_in (more b bs) u before up parent depth h =
@@ -325,7 +328,7 @@ module _ (t : ViewTree) (metrics : List (List ℕ × Fraction)) where
           within = omega (arith, h.within);
           free = free.1;
           short = ns.1;
-          room = omega (arith, h.room, ap length is, length-append u.views vs, length-views_of u.next parent b);
+          room = omega (arith, h.room, ap length is, length-append u.views vs, length-views_of u.next parent b, one.1.most);
           ids = omega (arith, h.ids, one.1.next);
         }) in
         let w : ViewTree = two.0 in (
@@ -337,6 +340,7 @@ module _ (t : ViewTree) (metrics : List (List ℕ × Fraction)) where
             same = λ rest. same_both u u1 w (pairs up b) (pairs_in up bs) rest (one.1.same (pairs_in up bs ++ rest)) (two.1.same rest);
             views = all_views u.views vs u1.views parent bs u1.next (u.next + size b) w.views is one.1.next two.1.views;
             next = omega (arith, one.1.next, two.1.next);
+            most = two.1.most ∙ one.1.most;
           },
         )
 
@@ -348,7 +352,7 @@ goes_in t n parent h = by (view_named t.views n) h
     by None h = absurd (none-some parent h)
     by (Some v) h = (refl, ap (λ o. unwrap_or o 0) h)
 
-pub room_for : (t : ViewTree) (count : ℕ) → has_room t count ≡ true → (length t.views + count ≤ 200) × (t.next + count ≤ 2 ^ 29)
+pub room_for : (t : ViewTree) (count : ℕ) → has_room t count ≡ true → (length t.views + count ≤ t.most) × (t.next + count ≤ 2 ^ 29)
 room_for t count h = grind (arith, common_steps, h)
 
 module _ (t : ViewTree) (metrics : List (List ℕ × Fraction)) (up : List ℕ) (parent : ℕ) (b : Branch) (tree : IsTree t) (goes : option_map (λ v. v.id) (view_named t.views up) ≡ Some parent)
@@ -377,4 +381,4 @@ module _ (t : ViewTree) (metrics : List (List ℕ × Fraction)) (up : List ℕ) 
   pub grown-pairs : grown t (pairs up b) ≡ with_branch t parent b
   grown-pairs =
       let g = grows t metrics b t [] up parent within.high.0 holds in
-      ap (grown t) (sym (append-nil (pairs up b))) ∙ g.1.same [] ∙ same_tree t metrics g.0 (with_branch t parent b) g.1.views g.1.next
+      ap (grown t) (sym (append-nil (pairs up b))) ∙ g.1.same [] ∙ same_tree t metrics g.0 (with_branch t parent b) g.1.views g.1.next g.1.most

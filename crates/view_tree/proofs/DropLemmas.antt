@@ -166,6 +166,8 @@ module _ (go : ℕ → Bool) where
       record {
         root = root-left t.views stays h.root;
         few = omega (arith, shorter keeps t.views, h.few);
+        within = omega (arith, shorter keeps t.views, h.within);
+        most = h.most;
         ids = h.ids;
         below = All-filter keeps (λ v. v.id < t.next) t.views h.below;
         rising = AllPairs-filter (λ v w. v.id < w.id) keeps t.views h.rising;
@@ -186,18 +188,18 @@ module _ (go : ℕ → Bool) where
       by true rest = rest
       by false rest = ap (λ vs. live_view e ∷ vs) rest
 
-  pub kept_tree-left : (es : List (List ℕ × Node)) (next : ℕ) → kept_tree (filter (λ e. not (go e.1.id.0)) es) next ≡ record (kept_tree es next) { views = left (map live_view es) }
-  kept_tree-left es next = ap (λ views. record { views = views; next = next }) (map-left es)
+  pub kept_tree-left : (es : List (List ℕ × Node)) (next most : ℕ) → kept_tree (filter (λ e. not (go e.1.id.0)) es) next most ≡ record (kept_tree es next most) { views = left (map live_view es) }
+  kept_tree-left es next most = ap (λ views. record { views = views; next = next; most = most }) (map-left es)
 
-  pub AreKept-left : (es : List (List ℕ × Node)) (next : ℕ) → AreKept es next → go 0 ≡ false → ((id p : ℕ) → HasParent (map live_view es) id (Some p) → go id ≡ false → go p ≡ false)
-      → AreKept (filter (λ e. not (go e.1.id.0)) es) next
-  AreKept-left es next h stays closed =
+  pub AreKept-left : (es : List (List ℕ × Node)) (next most : ℕ) → AreKept es next most → go 0 ≡ false → ((id p : ℕ) → HasParent (map live_view es) id (Some p) → go id ≡ false → go p ≡ false)
+      → AreKept (filter (λ e. not (go e.1.id.0)) es) next most
+  AreKept-left es next most h stays closed =
       let keeps : List ℕ × Node → Bool = λ e. not (go e.1.id.0) in
       let depths : All (λ e. IsAtDepth (left (map live_view es)) e.1.id.0 e.1.depth) (filter keeps es) = λ k d l.
       IsAtDepth-left (map live_view es) closed _ _ (kept-out _ (filter_passes keeps es k d l))
       (All-filter keeps (λ e. IsAtDepth (map live_view es) e.1.id.0 e.1.depth) es h.depths k d l) in
       record {
-        tree = subst IsTree (sym (kept_tree-left es next)) (IsTree-left (kept_tree es next) h.tree stays closed);
+        tree = subst IsTree (sym (kept_tree-left es next most)) (IsTree-left (kept_tree es next most) h.tree stays closed);
         depths = subst (λ views. All (λ e. IsAtDepth views e.1.id.0 e.1.depth) (filter keeps es)) (sym (map-left es)) depths;
       }
 

@@ -15,13 +15,13 @@ use Rattle.serde_json.specs.Read.{read}
 use Rattle.serde_json.proofs.OnLiterals.{serde_json_on_literals}
 use Rattle.view_tree.specs.JsonStops.{AreFree, IsFirstHeld, IsWithin, MayStayOut, PassesTreeLimit, has_room, is_held}
 use Rattle.view_tree.specs.JsonTrees.{Branch, branch, no_branches, more, height, names, IsJson, IsTreeText, JsonTree, tree_of, with_branch}
-use Rattle.view_tree.specs.Views.{IsAtDepth, ViewTree, view_named, window}
+use Rattle.view_tree.specs.Views.{IsAtDepth, ViewTree, first_tree, view_named, window}
 use Rattle.view_tree.specs.declared.stops.TreeStop.TheVariants.{Syntax, Shape, Unknown, Taken}
 use Rattle.view_tree.proofs.ViewLemmas.{IsAtDepth-unique}
 
 -- the window alone, and one metric
 abbrev bare : ViewTree
-bare = record { views = window ∷ []; next = 1 }
+bare = first_tree 200
 
 abbrev gap : List (List ℕ × Fraction)
 gap = (codes "gap", record { num = pos 8; den = 1 }) ∷ []
@@ -82,7 +82,7 @@ text_two = record { value = two_value; json = json_two; shape = refl }
 
 -- both views go in, numbered 1 and 2, the second below the first
 pub both_views : with_branch bare 0 two_tree.branch
-    ≡ record { views = window ∷ record { id = 1; name = codes "p"; parent = Some 0 } ∷ record { id = 2; name = codes "q"; parent = Some 1 } ∷ []; next = 3 }
+    ≡ record { views = window ∷ record { id = 1; name = codes "p"; parent = Some 0 } ∷ record { id = 2; name = codes "q"; parent = Some 1 } ∷ []; next = 3; most = 200 }
 both_views = refl
 
 -- the tree of a text is one
@@ -122,7 +122,7 @@ outer_place = refl
 
 -- no view at all, and so no window
 abbrev nothing : ViewTree
-nothing = record { views = []; next = 0 }
+nothing = record { views = []; next = 0; most = 200 }
 
 pub unknown_holds : MayStayOut nothing gap two_views (Unknown (codes "window"))
 unknown_holds = (two_tree, text_two, refl, refl)

@@ -119,13 +119,14 @@ next u ps i d h are =
     let first = subst (AreNew u) left are in
     record { live = first.0; new = first.1; rest = first.2; same = ap (grown u) (sym left) }
 
-pub grows_by : (t u w : ViewTree) (views : List LiveView) (name : List ℕ) (parent : ℕ) → u ≡ record { views = t.views ++ views; next = t.next + length views } → w ≡ with_view u name parent
-    → (more : List LiveView) × (w ≡ record { views = t.views ++ more; next = t.next + length more })
+pub grows_by : (t u w : ViewTree) (views : List LiveView) (name : List ℕ) (parent : ℕ) → u ≡ record t { views = t.views ++ views; next = t.next + length views } → w ≡ with_view u name parent
+    → (more : List LiveView) × (w ≡ record t { views = t.views ++ more; next = t.next + length more })
 grows_by t u w views name parent was is =
     let v : LiveView = record { id = u.next; name = name; parent = Some parent } in
     let longer : u.next + 1 ≡ t.next + length (views ++ v ∷ []) = omega (arith, ap (λ (x : ViewTree). x.next) was, length-append views (v ∷ [])) in
     let same : u.views ++ v ∷ [] ≡ t.views ++ (views ++ v ∷ []) = ap (λ (x : ViewTree). x.views ++ v ∷ []) was ∙ append_assoc t.views views (v ∷ []) in
-    (views ++ v ∷ [], is ∙ (λ i. record { views = same i; next = longer i }))
+    let most : u.most ≡ t.most = ap (λ (x : ViewTree). x.most) was in
+    (views ++ v ∷ [], is ∙ (λ i. record { views = same i; next = longer i; most = most i }))
 
 -- ---- limits
 
@@ -245,7 +246,7 @@ module _ (t : ViewTree) (metrics : List (List ℕ × Fraction)) (plan : Plan) (t
   new_views may = subst (AreNew t) (sym planned.pairs) (AreNew-pairs t metrics tree.place may.parent tree.branch may.whole (goes_in may.parent may.goes) (free_names may.free) (may.within tree planned))
 
   pub few_views : IsAddable t metrics plan → length plan.views.items ≤ 200
-  few_views may = omega (arith, (room_for t (size tree.branch) (may.within tree planned).room).0, count_is plan tree planned)
+  few_views may = omega (arith, (room_for t (size tree.branch) (may.within tree planned).room).0, may.whole.most, count_is plan tree planned)
 
   pub is_grown : IsAddable t metrics plan → (text : List ℕ) → IsTreeText text tree → (new : ViewTree) → new ≡ grown t (pairs_of plan.views.items)
       → (count : ℕ) → count ≡ length plan.views.items → IsGrown t metrics text new count

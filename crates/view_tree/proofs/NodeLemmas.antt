@@ -86,36 +86,36 @@ IsAtDepth-find views id es h = depth_by views id es (recursion_from_All (λ e. I
 
 -- ---- one entry more
 
-module _ (es : List (List ℕ × Node)) (next : ℕ) (name : List ℕ) (node : Node) (parent : ℕ) (id : node.id.0 ≡ next) (below : option_map (λ p. p.0) node.parent ≡ Some parent) where
+module _ (es : List (List ℕ × Node)) (next most : ℕ) (name : List ℕ) (node : Node) (parent : ℕ) (id : node.id.0 ≡ next) (below : option_map (λ p. p.0) node.parent ≡ Some parent) where
   entry : List ℕ × Node
   entry = (name, node)
 
-  same_views : map live_view (es ++ (name, node) ∷ []) ≡ (with_view (kept_tree es next) name parent).views
+  same_views : map live_view (es ++ (name, node) ∷ []) ≡ (with_view (kept_tree es next most) name parent).views
   same_views = map-append live_view es ((name, node) ∷ []) ∙ ap (λ v. map live_view es ++ v ∷ []) same
     where
       same : live_view (name, node) ≡ record { id = next; name = name; parent = Some parent }
       same = λ i. record { id = id i; name = name; parent = below i }
 
-  pub kept_tree-push : kept_tree (es ++ (name, node) ∷ []) (next + 1) ≡ with_view (kept_tree es next) name parent
-  kept_tree-push = ap (λ views. record { views = views; next = next + 1 }) same_views
+  pub kept_tree-push : kept_tree (es ++ (name, node) ∷ []) (next + 1) most ≡ with_view (kept_tree es next most) name parent
+  kept_tree-push = ap (λ views. record { views = views; next = next + 1; most = most }) same_views
 
-  pub AreKept-push : (above : ℕ) → AreKept es next → IsNewView (kept_tree es next) name parent → IsAtDepth (map live_view es) parent above → node.depth ≡ above + 1
-      → AreKept (es ++ (name, node) ∷ []) (next + 1)
+  pub AreKept-push : (above : ℕ) → AreKept es next most → IsNewView (kept_tree es next most) name parent → IsAtDepth (map live_view es) parent above → node.depth ≡ above + 1
+      → AreKept (es ++ (name, node) ∷ []) (next + 1) most
   AreKept-push above kept new on depth =
       let views : List LiveView = map live_view es in
       let highest : All (λ w. w.id < node.id.0) views = subst (λ n. All (λ w. w.id < n) views) (sym id) kept.tree.below in
       let pushed : IsAtDepth (views ++ live_view (name, node) ∷ []) node.id.0 node.depth =
       subst (IsAtDepth (views ++ live_view (name, node) ∷ []) node.id.0) (sym depth) (IsAtDepth-push views (live_view (name, node)) parent above below highest on) in
       record {
-        tree = subst IsTree (sym kept_tree-push) (IsTree-with_view (kept_tree es next) name parent kept.tree new);
+        tree = subst IsTree (sym kept_tree-push) (IsTree-with_view (kept_tree es next most) name parent kept.tree new);
         depths = rw (map-append live_view es ((name, node) ∷ []))
             (All-push (λ e. IsAtDepth (views ++ live_view (name, node) ∷ []) e.1.id.0 e.1.depth) es (name, node)
             (λ k d l. IsAtDepth-append views (live_view (name, node) ∷ []) _ _ (kept.depths k d l)) pushed);
       }
 
-pub AreKept-window : AreKept ((codes "window", record { id = record { 0 = 0 }; parent = None; depth = 1 }) ∷ []) 1
-AreKept-window = record {
-  tree = IsTree-window;
+pub AreKept-window : (most : ℕ) → 0 < most → most ≤ 200 → AreKept ((codes "window", record { id = record { 0 = 0 }; parent = None; depth = 1 }) ∷ []) 1 most
+AreKept-window most some few = record {
+  tree = IsTree-window most some few;
   depths = All-from_recursion (λ (e : List ℕ × Node). IsAtDepth (window ∷ []) e.1.id.0 e.1.depth) ((codes "window", record { id = record { 0 = 0 }; parent = None; depth = 1 }) ∷ [])
       (record { above = []; chain = refl; count = refl }, tt);
 }
@@ -146,7 +146,7 @@ depths-back views later (e ∷ es) h g = (
   depths-back views later es h.1 g.1,
 )
 
-module _ (es : List (List ℕ × Node)) (next : ℕ) (t : ViewTree) (later : List LiveView) (count : ℕ) (is : kept_tree es next ≡ record { views = t.views ++ later; next = t.next + count }) (counted : length later ≡ count) where
+module _ (es : List (List ℕ × Node)) (next most : ℕ) (t : ViewTree) (later : List LiveView) (count : ℕ) (is : kept_tree es next most ≡ record t { views = t.views ++ later; next = t.next + count }) (counted : length later ≡ count) where
   grown_views : map live_view es ≡ t.views ++ later
   grown_views = ap (λ (u : ViewTree). u.views) is
 
@@ -163,10 +163,13 @@ module _ (es : List (List ℕ × Node)) (next : ℕ) (t : ViewTree) (later : Lis
       let more : next ≡ t.next + count = ap (λ (u : ViewTree). u.next) is in
       omega (arith, more)
 
-  pub kept_tree-cut : kept_tree (take (length es - count) es) (next - count) ≡ t
-  kept_tree-cut = λ i. record { views = views-cut i; next = next-cut i }
+  most-cut : most ≡ t.most
+  most-cut = ap (λ (u : ViewTree). u.most) is
 
-  pub AreKept-cut : IsTree t → AreKept es next → AreKept (take (length es - count) es) (next - count)
+  pub kept_tree-cut : kept_tree (take (length es - count) es) (next - count) most ≡ t
+  kept_tree-cut = λ i. record { views = views-cut i; next = next-cut i; most = most-cut i }
+
+  pub AreKept-cut : IsTree t → AreKept es next most → AreKept (take (length es - count) es) (next - count) most
   AreKept-cut whole kept =
       let left : List (List ℕ × Node) = take (length es - count) es in
       let depths : All (λ w. (depth : ℕ) × IsAtDepth t.views w.id depth × (depth ≤ 32)) (map live_view left) =

@@ -13,7 +13,7 @@ use Rattle.std.specs.Option.{option_map, option_or}
 use Rattle.std.specs.Str.{bytes_eq}
 use Rattle.name_tables.specs.Names.{AreDistinct}
 use Rattle.view_tree.specs.Stops.{IsNewView, is_full}
-use Rattle.view_tree.specs.Views.{AreAbove, HasParent, IsAtDepth, IsTree, LiveView, ViewTree, view_named, view_of, window, with_view}
+use Rattle.view_tree.specs.Views.{AreAbove, HasParent, IsAtDepth, IsTree, LiveView, ViewTree, view_named, view_of, window, with_view, first_tree}
 
 -- ---- more views leave what is known of a view
 
@@ -99,7 +99,7 @@ first_stays : (views more : List LiveView) (v : LiveView) → slice_get views 0 
 first_stays [] more v h = absurd (none-some v h)
 first_stays (w ∷ views) more v h = h
 
-pub room : (t : ViewTree) → is_full t ≡ false → (length t.views < 200) × (t.next < 2 ^ 29)
+pub room : (t : ViewTree) → is_full t ≡ false → (length t.views < t.most) × (t.next < 2 ^ 29)
 room t h = grind (arith, common_steps, h)
 
 -- a live view has a number below the next one
@@ -114,10 +114,12 @@ lower next id (v ∷ views) h live = by (nat_eq v.id id) refl live (lower next i
 pub IsTree-with_view : (t : ViewTree) (name : List ℕ) (parent : ℕ) → IsTree t → IsNewView t name parent → IsTree (with_view t name parent)
 IsTree-with_view t name parent h new =
     let v : LiveView = record { id = t.next; name = name; parent = Some parent } in
-    let fits : (length t.views < 200) × (t.next < 2 ^ 29) = room t new.room in
+    let fits : (length t.views < t.most) × (t.next < 2 ^ 29) = room t new.room in
     record {
       root = first_stays t.views (v ∷ []) window h.root;
-      few = rw (length-append t.views (v ∷ [])) (omega (arith, fits.0));
+      few = rw (length-append t.views (v ∷ [])) (omega (arith, fits.0, h.most));
+      within = rw (length-append t.views (v ∷ [])) (omega (arith, fits.0));
+      most = h.most;
       ids = omega (arith, fits.1);
       below = All-push (λ w. w.id < t.next + 1) t.views v (λ k d l. omega (arith, h.below k d l)) (omega arith);
       rising = all_pairs_push (λ a b. a.id < b.id) t.views v h.rising h.below;
@@ -130,10 +132,12 @@ IsTree-with_view t name parent h new =
           (λ p is. subst (λ n. n < t.next) (ap (λ o. unwrap_or o 0) is) (lower t.next parent t.views (recursion_from_All (λ w. w.id < t.next) t.views h.below) new.live));
     }
 
-pub IsTree-window : IsTree (record { views = window ∷ []; next = 1 })
-IsTree-window = record {
+pub IsTree-window : (most : ℕ) → 0 < most → most ≤ 200 → IsTree (first_tree most)
+IsTree-window most some few = record {
   root = refl;
   few = omega arith;
+  within = omega (arith, some);
+  most = few;
   ids = omega arith;
   below = All-from_recursion (λ (v : LiveView). v.id < 1) (window ∷ []) (omega arith, tt);
   rising = λ i j d l m. absurd (omega (arith, l, m));

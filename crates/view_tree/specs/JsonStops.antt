@@ -14,7 +14,7 @@ use Rattle.view_tree.specs.JsonTrees.{Branch, IsJson, IsTreeText, JsonTree}
 use Rattle.view_tree.specs.JsonTrees.{height, names, size, tree_of, with_branch}
 use Rattle.view_tree.specs.Plans.{IsPlanOf, PlanGoesIn, names_of_plan}
 use Rattle.view_tree.specs.Views.{ViewTree, IsAtDepth, IsTree, view_named}
-use Rattle.view_tree.specs.declared.limits.TheConstants.{DEPTH_LIMIT, ID_LIMIT, VIEW_LIMIT}
+use Rattle.view_tree.specs.declared.limits.TheConstants.{DEPTH_LIMIT, ID_LIMIT}
 use Rattle.view_tree.specs.declared.plan.Plan.{Plan}
 use Rattle.view_tree.specs.declared.stops.TreeStop.{TreeStop}
 use Rattle.view_tree.specs.declared.stops.TreeStop.TheVariants.{Syntax, Shape, Unknown, Taken, Limit}
@@ -46,7 +46,7 @@ AreShort all = All (λ name. length name ≤ NAME_LIMIT) all
 
 -- so many views more may be live, and there are numbers for them
 abbrev pub has_room : ViewTree → ℕ → Bool
-has_room t count = nat_le (length t.views + count) VIEW_LIMIT && nat_le (t.next + count) ID_LIMIT
+has_room t count = nat_le (length t.views + count) t.most && nat_le (t.next + count) ID_LIMIT
 
 -- below this parent the branch passes no limit
 pub record IsWithin (t : ViewTree) (parent : ℕ) (b : Branch) : Type 0 where

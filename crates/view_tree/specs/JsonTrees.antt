@@ -61,7 +61,7 @@ abbrev mutual
 
 -- the tree with these views more
 abbrev pub with_branch : ViewTree → ℕ → Branch → ViewTree
-with_branch t parent b = record { views = t.views ++ views_of t.next parent b; next = t.next + size b }
+with_branch t parent b = record t { views = t.views ++ views_of t.next parent b; next = t.next + size b }
 
 -- ---- the branch of a JSON value
 

@@ -63,4 +63,4 @@ pub record IsGrownBy (t : ViewTree) (count : ℕ) : Type 0 where
   pub views : List LiveView
   pub whole : IsTree before
   pub counted : length views ≡ count
-  pub is : t ≡ record { views = before.views ++ views; next = before.next + count }
+  pub is : t ≡ record before { views = before.views ++ views; next = before.next + count }

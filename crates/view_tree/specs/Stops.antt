@@ -5,13 +5,13 @@ use Rattle.name_tables.specs.declared.stops.LimitWord.{LimitWord}
 use Rattle.name_tables.specs.declared.stops.LimitWord.TheVariants.{Name, Views, Depth}
 use Rattle.name_tables.specs.declared.stops.TheConstants.{NAME_LIMIT}
 use Rattle.view_tree.specs.Views.{ViewTree, IsAtDepth, view_named, view_of}
-use Rattle.view_tree.specs.declared.limits.TheConstants.{DEPTH_LIMIT, ID_LIMIT, VIEW_LIMIT}
+use Rattle.view_tree.specs.declared.limits.TheConstants.{DEPTH_LIMIT, ID_LIMIT}
 use Rattle.view_tree.specs.declared.stops.ViewStop.{ViewStop}
 use Rattle.view_tree.specs.declared.stops.ViewStop.TheVariants.{Unknown, Taken, Limit, OutOfMemory}
 
 -- there are as many views as there may be, or no number is left
 abbrev pub is_full : ViewTree → Bool
-is_full t = nat_le VIEW_LIMIT (length t.views) || nat_le ID_LIMIT t.next
+is_full t = nat_le t.most (length t.views) || nat_le ID_LIMIT t.next
 
 -- a view of this name may be added below this parent
 pub record IsNewView (t : ViewTree) (name : List ℕ) (parent : ℕ) : Type 0 where

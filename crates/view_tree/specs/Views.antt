@@ -13,14 +13,19 @@ pub record LiveView : Type 0 where
   pub name : List ℕ
   pub parent : Option ℕ
 
--- the live views in order of creation, and the number that the next view takes
+-- the live views in order of creation, the number that the next view takes, and how many may be live
 pub record ViewTree : Type 0 where
   pub views : List LiveView
   pub next : ℕ
+  pub most : ℕ
 
 -- the window, whose number is 0 and which has no parent
 abbrev pub window : LiveView
 window = record { id = 0; name = codes "window"; parent = None }
+
+-- the window alone, where so many views may be live
+abbrev pub first_tree : ℕ → ViewTree
+first_tree most = record { views = window ∷ []; next = 1; most = most }
 
 -- the live view with this number
 abbrev pub view_of : List LiveView → ℕ → Option LiveView
@@ -49,6 +54,8 @@ pub record IsAtDepth (views : List LiveView) (id depth : ℕ) : Type 0 where
 pub record IsTree (t : ViewTree) : Type 0 where
   pub root : slice_get t.views 0 ≡ Some window
   pub few : length t.views ≤ VIEW_LIMIT
+  pub within : length t.views ≤ t.most
+  pub most : t.most ≤ VIEW_LIMIT
   pub ids : t.next ≤ ID_LIMIT
   pub below : All (λ v. v.id < t.next) t.views
   pub rising : AllPairs (λ v w. v.id < w.id) t.views
@@ -59,7 +66,7 @@ pub record IsTree (t : ViewTree) : Type 0 where
 
 -- the tree with one view more
 abbrev pub with_view : ViewTree → List ℕ → ℕ → ViewTree
-with_view t name parent = record {
+with_view t name parent = record t {
   views = t.views
       ++ record { id = t.next; name = name; parent = Some parent } ∷ [];
   next = t.next + 1;

@@ -16,7 +16,7 @@ ghost use Rattle.view_tree.specs.Stops.{IsNewView};
 ghost use Rattle.view_tree.specs.declared.limits.TheConstants.{DEPTH_LIMIT};
 ghost use Rattle.view_tree.specs.Views.{IsAtDepth, IsTree, ViewTree, view_named, view_of, with_view};
 
-use crate::limits::{DEPTH_LIMIT, ID_LIMIT, VIEW_LIMIT};
+use crate::limits::{DEPTH_LIMIT, ID_LIMIT};
 use crate::plan::{Plan, Planned, plan_of};
 use crate::stops::{TreeStop, ViewStop};
 use crate::tree::Tree;
@@ -68,7 +68,7 @@ impl Tree {
         ensures room { result ≡ has_room self.now count }
         ensures tree { IsTree self.now }
     {
-        if count > VIEW_LIMIT - self.len() {
+        if count > self.most() - self.len() {
             return false;
         }
         count <= (ID_LIMIT - self.next_number()) as usize

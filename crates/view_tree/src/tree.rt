@@ -1,13 +1,13 @@
 // The live views.
-ghost use Rattle.std.specs.Prelude.{◌≡◌, ◌≢◌, ◌≤◌, ◌<◌, ◌+◌, ◌==◌, ℕ, List, [], ◌∷◌, ◌++◌, None, false};
+ghost use Rattle.std.specs.Prelude.{◌≡◌, ◌≢◌, ◌≤◌, ◌<◌, ◌+◌, ◌==◌, ℕ, List, ◌∷◌, ◌++◌, None, false};
 ghost use Rattle.std.specs.Prelude.{filter, find, not, position};
 ghost use Rattle.std.specs.Prelude.{IfOk, IfSome, OnErr, OnOk, IfErr, IfNone, is_some, length, slice_get};
 ghost use Rattle.std.specs.Option.{option_map, option_map_or, option_and_then};
 ghost use Rattle.view_tree.specs.Plans.{IsGrownBy};
 ghost use Rattle.view_tree.specs.Views.{LiveView, ViewTree, IsTree, IsAtDepth, HasParent};
-ghost use Rattle.view_tree.specs.Views.{view_of, view_named, with_view, window};
+ghost use Rattle.view_tree.specs.Views.{first_tree, view_of, view_named, with_view};
 ghost use Rattle.view_tree.specs.Stops.{IsNewView, MayStop, is_full};
-ghost use Rattle.view_tree.specs.declared.limits.TheConstants.{DEPTH_LIMIT, ID_LIMIT};
+ghost use Rattle.view_tree.specs.declared.limits.TheConstants.{DEPTH_LIMIT, ID_LIMIT, VIEW_LIMIT};
 ghost use Rattle.view_tree.specs.Drops.{AreGoing, goes, is_among, without};
 
 use crate::limits::{DEPTH_LIMIT, ID_LIMIT, VIEW_LIMIT};
@@ -78,12 +78,14 @@ fn drop_nodes(table: &mut NameMap<Node>, gone: &[u32])
     }
 }
 
-/// The live views in order of creation, and the number that the next one takes. The first is the window.
+/// The live views in order of creation, the number that the next one takes, and how many may be live. The
+/// first is the window.
 #[derive(Drop)]
 pub struct Tree {
     alloc: Global,
     table: NameMap<Node>,
     next: u32,
+    most: u32,
 }
 
 impl Model for Tree {
@@ -92,15 +94,24 @@ impl Model for Tree {
 
     ghost Value = { ViewTree };
 
-    ghost view = { λ t. kept_tree t.table t.next };
+    ghost view = { λ t. kept_tree t.table t.next t.most };
 
-    ghost invariant = { λ t. AreKept t.table t.next };
+    ghost invariant = { λ t. AreKept t.table t.next t.most };
 }
 
 impl Tree {
-    /// The window alone.
+    /// The window alone, where [`VIEW_LIMIT`] views may be live.
     pub fn new(alloc: Global) -> Result<Tree, OutOfMemory>
-        ensures { IfOk result (λ tree. tree ≡ record { views = window ∷ []; next = 1 }) }
+        ensures { IfOk result (λ tree. tree ≡ first_tree VIEW_LIMIT) }
+    {
+        Tree::with(alloc, VIEW_LIMIT as u32)
+    }
+
+    /// The window alone, where so many views may be live, it among them.
+    pub fn with(alloc: Global, most: u32) -> Result<Tree, OutOfMemory>
+        requires some { 0 < most }
+        requires few { most ≤ VIEW_LIMIT }
+        ensures { IfOk result (λ tree. tree ≡ first_tree most) }
     {
         let mut table = NameMap::new(alloc);
         let node = Node {
@@ -113,7 +124,17 @@ impl Tree {
             alloc,
             table,
             next: 1,
+            most,
         })
+    }
+
+    /// How many views may be live.
+    pub(crate) fn most(&self) -> usize
+        ensures most { result ≡ self.now.most }
+        ensures few { self.now.most ≤ VIEW_LIMIT }
+        ensures within { length self.now.views ≤ self.now.most }
+    {
+        self.most as usize
     }
 
     /// How many views are live.
@@ -227,15 +248,15 @@ impl Tree {
     fn is_full(&self) -> bool
         ensures { result ≡ is_full self.now }
     {
-        self.table.len() >= VIEW_LIMIT || self.next >= ID_LIMIT
+        self.table.len() >= self.most as usize || self.next >= ID_LIMIT
     }
 
     /// Adds a view below a parent, and answers its number, which is the next one.
     ///
     /// `Unknown` where the parent isn't live, otherwise `Taken` where a live view has the name, otherwise the
-    /// first limit that would be passed: `Name` past [`NAME_LIMIT`] bytes, `Views` at [`VIEW_LIMIT`] live
-    /// views or at the number [`ID_LIMIT`], `Depth` below a parent at [`DEPTH_LIMIT`]. After a refusal all is
-    /// as before.
+    /// first limit that would be passed: `Name` past [`NAME_LIMIT`] bytes, `Views` where as many views are
+    /// live as may be, or at the number [`ID_LIMIT`], `Depth` below a parent at [`DEPTH_LIMIT`]. After a
+    /// refusal all is as before.
     pub fn add(&mut self, name: &str, parent: ViewId) -> Result<ViewId, ViewStop>
         ensures id { IfOk result (λ id. id.0 ≡ self.old.next) }
         ensures new { OnOk result (IsNewView self.old name.now parent.0) }
@@ -260,7 +281,7 @@ impl Tree {
     pub fn take_back_views(&mut self, count: usize)
         requires { IsGrownBy self.old count }
         ensures { (before : ViewTree) (views : List LiveView) → length views ≡ count
-            → self.old ≡ record { views = before.views ++ views; next = before.next + count }
+            → self.old ≡ record before { views = before.views ++ views; next = before.next + count }
             → self.new ≡ before }
     {
         self.table.truncate(self.table.len() - count);
@@ -302,6 +323,7 @@ impl Tree {
             alloc: self.alloc,
             table: self.table.copy()?,
             next: self.next,
+            most: self.most,
         })
     }
 }

@@ -5,7 +5,7 @@ ghost use Rattle.claim_writing.specs.Texts.{Adds};
 ghost use Rattle.claim_writing.specs.ClaimLines.{value_line, level_line, by_line};
 ghost use Rattle.claim_writing.specs.Names.{row_word, level_word};
 ghost use Rattle.claim_writing.specs.ClaimLines.{level_lines, lines_of_levels, best_lines};
-ghost use Rattle.claim_writing.specs.ClaimLines.{conflict_lines};
+ghost use Rattle.claim_writing.specs.ClaimLines.{bys_text, conflict_lines, values_text};
 ghost use Rattle.claim_writing.specs.Lines.{text_of_lines};
 ghost use Rattle.claim_writing.specs.ClaimLines.{claim_text};
 
@@ -120,6 +120,24 @@ fn put_conflict(text: &mut String, conflict: &Conflict) -> Result<(), OutOfMemor
     put_bys(text, conflict.by())
 }
 
+// The text of multipliers, apart.
+fn bys_apart(alloc: Global, bys: &[By]) -> Result<String, OutOfMemory>
+    ensures { IfOk result (λ text. string_bytes text ≡ bys_text bys.now) }
+{
+    let mut text = String::new(alloc);
+    put_bys(&mut text, bys)?;
+    Ok(text)
+}
+
+// The text of values, apart.
+fn values_apart(alloc: Global, values: &Values) -> Result<String, OutOfMemory>
+    ensures { IfOk result (λ text. string_bytes text ≡ values_text values.now) }
+{
+    let mut text = String::new(alloc);
+    put_values(&mut text, values.pairs())?;
+    Ok(text)
+}
+
 // The text of a conflict, apart.
 fn conflict_apart(alloc: Global, conflict: &Conflict) -> Result<String, OutOfMemory>
     ensures { IfOk result (λ text. string_bytes text ≡ text_of_lines (conflict_lines conflict.now)) }
@@ -136,6 +154,24 @@ fn best_apart(alloc: Global, values: &Values, best: &Best) -> Result<String, Out
     let mut text = String::new(alloc);
     put_best(&mut text, values, best)?;
     Ok(text)
+}
+
+/// Appends the lines of multipliers. After want of memory nothing was appended.
+pub fn bys_text(bys: &[By], out: &mut Vec<u8>) -> Result<(), OutOfMemory>
+    ensures written { IfOk result (λ _. out.new.items ≡ out.old.items ++ bys_text bys.now) }
+    ensures unchanged { OnErr result (out.new.items ≡ out.old.items) }
+{
+    let text = bys_apart(*out.allocator(), bys)?;
+    Ok(out.extend_from_slice(text.as_bytes())?)
+}
+
+/// Appends the lines of values. After want of memory nothing was appended.
+pub fn values_text(values: &Values, out: &mut Vec<u8>) -> Result<(), OutOfMemory>
+    ensures written { IfOk result (λ _. out.new.items ≡ out.old.items ++ values_text values.now) }
+    ensures unchanged { OnErr result (out.new.items ≡ out.old.items) }
+{
+    let text = values_apart(*out.allocator(), values)?;
+    Ok(out.extend_from_slice(text.as_bytes())?)
 }
 
 /// Appends the lines of a conflict. After want of memory nothing was appended.

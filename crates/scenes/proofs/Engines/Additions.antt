@@ -9,7 +9,7 @@ use Rattle.problem_core.specs.declared.parts.Term.{Term}
 use Rattle.problem_core.specs.Layout.{Row, Problem}
 use Rattle.problem_core.specs.Kept.{IsNumber, IsRow, IsWhole, AreRising}
 use Rattle.problem_core.specs.Window.{required_row, structural_rows, zero_fraction}
-use Rattle.view_tree.specs.Views.{LiveView, ViewTree}
+use Rattle.view_tree.specs.Views.{LiveView, ViewTree, first_tree}
 use Rattle.layout_solver.specs.declared.engine.Change.{Change}
 use Rattle.layout_solver.specs.Layouts.{Layout, zeros, with_added}
 use Rattle.layout_solver.specs.Shifts.{shifted, with_shifts}
@@ -22,7 +22,7 @@ use Rattle.held_items.proofs.HeldRows.NextRows.{shape}
 use Rattle.held_items.specs.Attributes.{MayBeAdded}
 use Rattle.held_items.proofs.Constants.AlikeRows.{alike-shapes}
 use Rattle.layout_solver.proofs.Shifts.Constants.{shifted-alike}
-use Rattle.scenes.proofs.First.{first_problem, first_tree}
+use Rattle.scenes.proofs.First.{first_problem}
 use Rattle.held_items.proofs.HeldRows.Ranks.{HasRank}
 use Rattle.layout_solver.proofs.BestValues.{attrs-at}
 use Rattle.frac_core.proofs.Lists.{pairs-nil}
@@ -110,10 +110,10 @@ first-whole l more is are each =
     (added-whole empty.problem empty.values (view_attributes 0) structural_rows 1 1 empty-settled (λ k d within. absurd (omega (arith, within))) (view-new 0 (lit< tt)) (λ k d within. absurd (omega (arith, within)))
     (first-may (subst (All IsRow) are each)) (omega arith) (omega arith)))
 
-pub first-counted : (t : ViewTree) (p : Problem) → t ≡ first_tree → p ≡ first_problem → IsCounted t.views 5 p
+pub first-counted : (t : ViewTree) (p : Problem) → t ≡ first_tree t.most → p ≡ first_problem → IsCounted t.views 5 p
 first-counted t p tree is =
     subst (λ (u : ViewTree). IsCounted u.views 5 p) (sym tree)
-    (subst (IsCounted first_tree.views 5) (sym is) (record {
+    (subst (IsCounted (first_tree t.most).views 5) (sym is) (record {
       stays = refl;
       below = All-from_recursion (λ (r : Row). r.id < 5) structural_rows (lit< tt, (lit< tt, (lit< tt, (lit< tt, tt))));
       ranks = All-from_recursion HasRank structural_rows (lit< tt, (lit< tt, (lit< tt, (lit< tt, tt))));

@@ -6,7 +6,7 @@ ghost use Rattle.layout_solver.specs.Layouts.{solution_of};
 ghost use Rattle.scenes.specs.Kept.{AreAlike};
 ghost use Rattle.held_items.specs.declared.limits.TheConstants.{EARLIER};
 
-use held_items::{EARLIER, Item};
+use held_items::Item;
 use layout_solver::Engine;
 use name_tables::Metrics;
 use script_text::Direction;
@@ -73,16 +73,16 @@ fn drop_oldest(pasts: &mut VecDeque<Past>)
     let _oldest = pasts.pop_back();
 }
 
-// Forgets the oldest of the earlier ones, of which there is one too many.
+// Forgets the oldest of the earlier ones.
 fn forget_oldest(items: &mut VersionList<Item>, engine: &mut Engine, pasts: &mut VecDeque<Past>)
-    requires many { length pasts.old.items ≡ EARLIER + 1 }
-    requires items { length items.old.before ≡ EARLIER + 1 }
-    requires solutions { length engine.old.earlier ≡ EARLIER + 1 }
+    requires some { 0 < length pasts.old.items }
+    requires items { length items.old.before ≡ length pasts.old.items }
+    requires solutions { length engine.old.earlier ≡ length pasts.old.items }
     ensures now { items.new.items ≡ items.old.items }
     ensures solution { solution_of engine.new ≡ solution_of engine.old }
-    ensures items { items.new.before ≡ take EARLIER items.old.before }
-    ensures solutions { engine.new.earlier ≡ take EARLIER engine.old.earlier }
-    ensures pasts { pasts.new.items ≡ take EARLIER pasts.old.items }
+    ensures items { items.new.before ≡ take (length pasts.old.items - 1) items.old.before }
+    ensures solutions { engine.new.earlier ≡ take (length pasts.old.items - 1) engine.old.earlier }
+    ensures pasts { pasts.new.items ≡ take (length pasts.old.items - 1) pasts.old.items }
     ensures capacity { deque_capacity pasts.new ≡ deque_capacity pasts.old }
 {
     drop_oldest(pasts);
@@ -91,27 +91,29 @@ fn forget_oldest(items: &mut VersionList<Item>, engine: &mut Engine, pasts: &mut
 }
 
 /// Makes what a scene has of its own the newest of the earlier ones, with the newest versions of the items
-/// and the engine. The oldest of too many is forgotten.
+/// and the engine. There are so many earlier ones at most, and the oldest of too many is forgotten.
 pub fn keep(
     items: &mut VersionList<Item>,
     engine: &mut Engine,
     pasts: &mut VecDeque<Past>,
     past: Past,
+    most: usize,
 )
-    requires few { length pasts.old.items ≤ EARLIER }
+    requires most { most ≤ EARLIER }
+    requires few { length pasts.old.items ≤ most }
     requires room { EARLIER < deque_capacity pasts.old }
     requires items { length items.old.before ≡ 1 + length pasts.old.items }
     requires solutions { length engine.old.earlier ≡ 1 + length pasts.old.items }
     ensures now { items.new.items ≡ items.old.items }
     ensures solution { solution_of engine.new ≡ solution_of engine.old }
-    ensures items { items.new.before ≡ take EARLIER items.old.before }
-    ensures solutions { engine.new.earlier ≡ take EARLIER engine.old.earlier }
-    ensures pasts { pasts.new.items ≡ take EARLIER (past ∷ pasts.old.items) }
-    ensures alike { AreAlike items.new.before engine.new.earlier pasts.new.items }
+    ensures items { items.new.before ≡ take most items.old.before }
+    ensures solutions { engine.new.earlier ≡ take most engine.old.earlier }
+    ensures pasts { pasts.new.items ≡ take most (past ∷ pasts.old.items) }
+    ensures alike { AreAlike most items.new.before engine.new.earlier pasts.new.items }
     ensures capacity { deque_capacity pasts.new ≡ deque_capacity pasts.old }
 {
     pasts.push_front_reserved(past);
-    if pasts.len() > EARLIER {
+    if pasts.len() > most {
         forget_oldest(items, engine, pasts);
     }
 }

@@ -16,13 +16,15 @@ ghost use Rattle.scenes.specs.Drafts.{metrics_draft, preferred_draft};
 ghost use Rattle.held_items.specs.Attributes.{IsNextLine};
 ghost use Rattle.scenes.specs.Drafts.{AreComing, again_draft, coming_draft, left_draft, window_draft};
 ghost use Rattle.held_items.specs.Items as held;
+ghost use Rattle.held_items.specs.declared.item.coming.NewViews as coming;
 ghost use Rattle.held_items.specs.Items.{has_size, size_of};
 ghost use Rattle.scenes.specs.Kept.{IsNextItem};
 ghost use Rattle.held_items.specs.Kept.{size_in};
 ghost use Rattle.scenes.specs.Leaving.{without_group, without_intrinsic, without_suggestion, without_views};
 ghost use Rattle.scenes.specs.Steps.{IsProblemOf};
 ghost use Rattle.scenes.specs.Moving.{AreChangesFor, MayLackChanges};
-ghost use Rattle.scenes.specs.Scene.{problem_of, with_direction, with_intrinsic, with_item, with_line};
+ghost use Rattle.scenes.specs.Scene.{AreRisingStays, moved, problem_of, with_direction, with_intrinsic};
+ghost use Rattle.scenes.specs.Scene.{with_item, with_line};
 ghost use Rattle.scenes.specs.Scene.{with_suggestion};
 ghost use Rattle.script_text.specs.declared.words.Direction.{Direction};
 
@@ -43,6 +45,18 @@ use script_text::AttrWord;
 use view_tree::ViewId;
 
 impl Scene {
+    /// Shows that the attributes of the stays rise: of this scene's, of those at its values, and of those
+    /// once views have come.
+    pub fn show_stays(&self)
+        ensures held { AreRisingStays self.now.scene.stays }
+        ensures moved { AreRisingStays (moved self.now.scene.stays self.now.scene.values) }
+        ensures coming { (new : coming.NewViews) → AreComing self.now.scene new
+            → AreRisingStays (coming_draft self.now.scene new).stays }
+    {
+        self.engine.show_layout(); // for the proof: what an engine keeps
+        let _count = self.tree.len(); // for the proof: what a tree keeps
+    }
+
     /// The problem of the rows of all that is held.
     pub fn problem(&self) -> Result<Problem, OutOfMemory>
         ensures { IfOk result (λ p. p ≡ problem_of self.now.scene) }

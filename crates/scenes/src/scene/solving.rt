@@ -125,8 +125,8 @@ pub fn take_out(
 }
 
 /// Takes out the attributes of these views and the rows of what goes with them, with the stays at the present
-/// values, and goes on to the best values. What goes leaves the items, of which those of before are the newest
-/// earlier version; after a stop all is as before.
+/// values, and goes on to the best values. What goes leaves the items, of which those of before are the
+/// newest earlier version; after a stop all is as before.
 pub fn take_gone(
     alloc: Global,
     engine: &mut Engine,

@@ -67,7 +67,13 @@ impl Scene {
         take_more(&mut self.engine, &mut self.items, &[], rows, budget)?;
         let past = Past::alike(self.setting);
         self.setting.next_row += rows.len() as u32;
-        keep(&mut self.items, &mut self.engine, &mut self.pasts, past);
+        keep(
+            &mut self.items,
+            &mut self.engine,
+            &mut self.pasts,
+            past,
+            self.undo,
+        );
         Ok(())
     }
 
@@ -83,7 +89,13 @@ impl Scene {
         take_leaving_out(&mut self.items, leaver)?;
         take_out(&mut self.engine, &mut self.items, &rows, &[], budget)?;
         let past = Past::alike(self.setting);
-        keep(&mut self.items, &mut self.engine, &mut self.pasts, past);
+        keep(
+            &mut self.items,
+            &mut self.engine,
+            &mut self.pasts,
+            past,
+            self.undo,
+        );
         Ok(())
     }
 
@@ -106,7 +118,13 @@ impl Scene {
         take_more(&mut self.engine, &mut self.items, &attrs, &rows, budget)?;
         let past = Past::with_tree(mem::replace(&mut self.tree, new.tree), self.setting);
         self.setting.next_row = first_row + VIEW_ROWS * new.count;
-        keep(&mut self.items, &mut self.engine, &mut self.pasts, past);
+        keep(
+            &mut self.items,
+            &mut self.engine,
+            &mut self.pasts,
+            past,
+            self.undo,
+        );
         Ok(())
     }
 
@@ -127,7 +145,13 @@ impl Scene {
         self.items.mark();
         take_constants(&mut self.engine, &mut self.items, to, budget)?;
         let past = Past::with_metrics(mem::replace(&mut self.metrics, metrics), self.setting);
-        keep(&mut self.items, &mut self.engine, &mut self.pasts, past);
+        keep(
+            &mut self.items,
+            &mut self.engine,
+            &mut self.pasts,
+            past,
+            self.undo,
+        );
         Ok(())
     }
 
@@ -165,7 +189,13 @@ impl Scene {
         renew(&mut self.items, renewal)?;
         take_constants(&mut self.engine, &mut self.items, to, budget)?;
         let past = Past::alike(self.setting);
-        keep(&mut self.items, &mut self.engine, &mut self.pasts, past);
+        keep(
+            &mut self.items,
+            &mut self.engine,
+            &mut self.pasts,
+            past,
+            self.undo,
+        );
         Ok(())
     }
 
@@ -302,7 +332,13 @@ impl Scene {
         self.items.mark();
         let past = Past::alike(self.setting);
         self.setting.direction = to;
-        keep(&mut self.items, &mut self.engine, &mut self.pasts, past);
+        keep(
+            &mut self.items,
+            &mut self.engine,
+            &mut self.pasts,
+            past,
+            self.undo,
+        );
         Ok(())
     }
 
@@ -355,7 +391,13 @@ impl Scene {
         let left = tree_without(&self.tree, gone)?;
         take_gone(self.alloc, &mut self.engine, &mut self.items, gone, budget)?;
         let past = Past::with_tree(mem::replace(&mut self.tree, left), self.setting);
-        keep(&mut self.items, &mut self.engine, &mut self.pasts, past);
+        keep(
+            &mut self.items,
+            &mut self.engine,
+            &mut self.pasts,
+            past,
+            self.undo,
+        );
         Ok(())
     }
 }

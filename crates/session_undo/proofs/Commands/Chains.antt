@@ -30,7 +30,6 @@ use Rattle.held_items.specs.Items.{has_size}
 use Rattle.held_items.specs.declared.item.coming.NewViews.{NewViews}
 use Rattle.session_undo.specs.Adding.{NoEnd, IsFreeName, IsFreeView, IsFreeMetric, IsViewMore, UnlessUnfree, ViewStep}
 use Rattle.scenes.specs.Drafts.{views_draft, metrics_draft}
-use Rattle.session_undo.specs.Kept.{AreWithin}
 use Rattle.scenes.specs.Moving.{MayLackChanges}
 use Rattle.held_items.proofs.HeldRows.ItemRows.{rows-small}
 use Rattle.session_undo.proofs.Commands.Steps.{refuses}
@@ -126,14 +125,14 @@ few-views s less h (inl many) = omega (arith, less, many)
 few-views s less h (inr last) = omega (arith, (room s.scene.tree h).1, last)
 
 -- where there are fewer views than there may be, it is a number that is wanting
-no-number : (t : ViewTree) → is_full t ≡ true → length t.views < 200 → 2 ^ 29 ≤ t.next
+no-number : (t : ViewTree) → is_full t ≡ true → length t.views < t.most → 2 ^ 29 ≤ t.next
 no-number t full few = grind (arith, common_steps, full, few)
 
 -- what is known of a view's name when the tree is asked
 pub record IsAsked (old : State) (name parent : List ℕ) (above : ℕ) : Type 0 where
   pub found : Some above ≡ option_map (λ v. v.id) (view_named old.scene.tree.views parent)
   pub named : IsFreeName old name
-  pub within : AreWithin old.limits
+  pub most : old.scene.tree.most ≡ old.limits.views
 
 asked-found : (t : ViewTree) (parent : List ℕ) (above : ℕ) → Some above ≡ option_map (λ v. v.id) (view_named t.views parent) → view_named t.views parent ≡ None → ⊥
 asked-found t parent above found =
@@ -169,7 +168,7 @@ module _ (old : State) (name parent : List ℕ) (above : ℕ) (End : Scene → R
   pub view-limited : (reply : Reply) (new : State) → ViewStep old name above reply new → TriedView old name parent End reply new
   view-limited reply new (word.Name, (live, free, long), keeps) = absurd (omega (arith, asked.named.short, long))
   view-limited reply new (word.Views, (live, free, (short, full)), keeps) =
-      found-named reply new (inl (inr (no-number old.scene.tree full (omega (arith, asked.named.few, asked.within.views))), keeps.0, keeps.1))
+      found-named reply new (inl (inr (no-number old.scene.tree full (omega (arith, asked.named.few, asked.most))), keeps.0, keeps.1))
   view-limited reply new (word.Depth, (live, free, (short, not_full, (depth, on, deep))), keeps) =
       let v = asked-depth old.scene.tree parent above depth asked.found on in
       found-named reply new (inr (few-views old asked.named.few not_full, inl ((v.0, depth, v.1, v.2, deep), keeps.0, keeps.1)))

@@ -18,6 +18,7 @@ use Rattle.script_text.specs.declared.words.AttrWord.{AttrWord}
 use Rattle.script_text.specs.declared.words.Direction.{Direction}
 use Rattle.vfl_text.specs.Formats.{FormatMeaning}
 use Rattle.view_tree.specs.JsonTrees.{size}
+use Rattle.view_tree.specs.Views.{ViewTree}
 use Rattle.view_tree.specs.declared.view.ViewId.{ViewId}
 use Rattle.scenes.specs.Drafts.{AreComing, HasRoomFor, views_draft}
 use Rattle.scenes.specs.declared.scene.updates.NewLine.{NewLine}
@@ -48,7 +49,7 @@ module _ (old : State) (within : AreWithin old.limits) where
       let fits : old.scene.next_row + 2 ≤ 2 ^ 31 = room-numbers old 2 free.rows in
       record {
         asks = view-passed old name (parent_name parent) (AsksFor (drafted old.scene (draft.Views new))) new.tree new.first_view.0 Done old free (ap (λ (k : ℕ). views_draft old.scene new.tree new.first_view.0 k) (sym one));
-        may = (grown, record { rows = omega (arith, room, one); numbers = omega (arith, fits, one) });
+        may = (grown, record { rows = omega (arith, room, one); numbers = omega (arith, fits, one) }, ap (λ (t : ViewTree). t.most) free.tree_is);
         kind_is = refl;
       }
 
@@ -58,7 +59,7 @@ module _ (old : State) (within : AreWithin old.limits) where
       let fits : old.scene.next_row + 2 * size free.tree.branch ≤ 2 ^ 31 = room-numbers old (2 * size free.tree.branch) free.rows in
       record {
         asks = tree-passed old text start (AsksFor (drafted old.scene (draft.Views new))) new.tree new.first_view.0 new.count Done old free refl;
-        may = (grown, record { rows = omega (arith, room, free.count_is); numbers = omega (arith, fits, free.count_is) });
+        may = (grown, record { rows = omega (arith, room, free.count_is); numbers = omega (arith, fits, free.count_is) }, ap (λ (t : ViewTree). t.most) free.tree_is);
         kind_is = refl;
       }
 

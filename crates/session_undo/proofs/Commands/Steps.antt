@@ -1,5 +1,5 @@
 -- What the changes of a session come to.
-use Rattle.std.proofs.Common.{◌≡◌, ℕ, ◌<◌, List, [], ◌∷◌, length, refl, sym, ap, ◌∙◌, subst, inl, inr, arith}
+use Rattle.std.proofs.Common.{◌≡◌, ℕ, ◌<◌, List, [], ◌∷◌, length, refl, sym, ap, ap₂, ◌∙◌, subst, inl, inr, arith}
 use Rattle.name_tables.specs.declared.stops.LimitWord.{LimitWord}
 use Rattle.name_tables.specs.declared.stops.LimitWord.TheVariants as word
 use Rattle.compile_parts.specs.declared.stops.KindWord.{KindWord}
@@ -16,7 +16,7 @@ use Rattle.std.specs.Prelude.{IfOk, IfErr, OnOk}
 use Rattle.std.specs.declared.result.Result.{Result}
 use Rattle.std.specs.declared.result.Result.TheVariants.{Ok, Err}
 use Rattle.session_undo.specs.Replies.{Reply, Done, Limit, Kind, MayRefuse, accepted}
-use Rattle.scenes.specs.Scene.{AreDraftRows, History, IsBestScene, Scene, with_earlier, with_line}
+use Rattle.scenes.specs.Scene.{AreDraftRows, History, IsBestScene, Remembers, Scene, with_earlier, with_line}
 use Rattle.session_undo.specs.State.{State}
 use Rattle.session_undo.specs.Machine.{TriedUndo, Unless, UnlessAny, Keeps, Solves, SolvesFree, Stands, TriedLine, AddsLine, IsCrowded}
 use Rattle.scenes.specs.Steps.{IsSolved}
@@ -42,11 +42,23 @@ refuses F G refusal.OutOfMemory to h = h
 abbrev pub after : State → History → State
 after old history = record old { scene = history.scene; earlier = history.earlier }
 
--- the scene before is the latest earlier one
+-- the scene before is the latest earlier one, of as many as may be
 abbrev pub IsKeptIn : State → History → Type 0
-IsKeptIn old history = history.earlier ≡ with_earlier old.scene old.earlier
+IsKeptIn old history = history.earlier ≡ with_earlier old.limits.undo old.scene old.earlier
 
-pub kept-after : (old : State) (history : History) → IsKeptIn old history → after old history ≡ record old { scene = history.scene; earlier = with_earlier old.scene old.earlier }
+-- what a scene remembers is that, where the session's limit is the scene's
+pub kept-in : (old : State) (was history : History) → was.scene ≡ old.scene → was.earlier ≡ old.earlier → was.undo ≡ old.limits.undo → Remembers was history → IsKeptIn old history
+kept-in old was history scene earlier undo remembers =
+    remembers.0
+    ∙ ap (λ (n : ℕ). with_earlier n was.scene was.earlier) undo
+    ∙ ap₂ (λ (s : Scene) (ss : List Scene). with_earlier old.limits.undo s ss) scene earlier
+
+-- the same of a step's end
+pub kept-end : {E : Type 0} (old : State) (was history : History) (end : Result (Unit {0}) E) → was.scene ≡ old.scene → was.earlier ≡ old.earlier → was.undo ≡ old.limits.undo → OnOk end (Remembers was history) → OnOk end (IsKeptIn old history)
+kept-end old was history (Ok done) scene earlier undo remembers = kept-in old was history scene earlier undo remembers
+kept-end old was history (Err stop) scene earlier undo remembers = tt
+
+pub kept-after : (old : State) (history : History) → IsKeptIn old history → after old history ≡ record old { scene = history.scene; earlier = with_earlier old.limits.undo old.scene old.earlier }
 kept-after old history is = ap (λ (earlier : List Scene). record old { scene = history.scene; earlier = earlier }) is
 
 -- the engine's end is the step's

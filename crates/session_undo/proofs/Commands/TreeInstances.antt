@@ -66,7 +66,7 @@ taken-holds =
 
 -- no number is left for a view
 abbrev at-end : State
-at-end = record at-first { scene = record (first_scene []) { tree = record { views = window ∷ []; next = 2 ^ 29 } } }
+at-end = record at-first { scene = record (first_scene []) { tree = record (first_scene []).tree { next = 2 ^ 29 } } }
 
 pub limit-holds : TriedTree at-end two_views 5 NoEnd (Limit word.Views) at-end
 limit-holds = tree-limited at-end two_views 5 NoEnd two_tree 0 word.Views text-two refl (refl, (refl, tt)) (within_two.short, refl)

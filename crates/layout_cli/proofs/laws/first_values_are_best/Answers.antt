@@ -1,5 +1,5 @@
-use Rattle.std.proofs.Common.{◌≡◌, sym, subst, arith}
-use Rattle.session_undo.specs.State.{IsBestState, State, first_state}
+use Rattle.std.proofs.Common.{sym, subst, arith}
+use Rattle.session_undo.specs.State.{IsBestState}
 use Rattle.scenes.proofs.First.{first-AreBest}
 use Rattle.layout_cli.proofs.laws.first_values_are_best.Goals as goal
 

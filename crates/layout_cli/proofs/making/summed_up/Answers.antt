@@ -1,4 +1,4 @@
-use Rattle.std.proofs.Common.{◌≡◌, ◌∙◌, ◌++◌, ℕ, length, ap, refl}
+use Rattle.std.proofs.Common.{◌∙◌, ◌++◌, ℕ, length, ap, refl}
 use Rattle.layout_cli.specs.Making.{last_line, summary_line}
 use Rattle.layout_cli.proofs.making.summed_up.Goals as goal
 

@@ -18,6 +18,11 @@ returns-in-Check-clause-other_words g c =
     let words : AreWordsOf c.args.words.now c.in-Ok-Some.mode = search rules in
     λ other. absurd (other c.in-Ok-Some.mode words)
 
+pub returns-in-Host-clause-other_words : goal.returns-in-Host-clause-other_words
+returns-in-Host-clause-other_words g c =
+    let words : AreWordsOf c.args.words.now c.in-Ok-Some.mode = search rules in
+    λ other. absurd (other c.in-Ok-Some.mode words)
+
 pub returns-in-Make-clause-done : goal.returns-in-Make-clause-done
 returns-in-Make-clause-done g c =
     let was : AreWordsOf c.args.words.now c.in-Ok-Some.mode = search rules in

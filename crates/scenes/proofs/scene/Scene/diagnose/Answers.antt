@@ -7,13 +7,13 @@ use Rattle.scenes.proofs.scene.Scene.diagnose.Goals as goal
 pub diagnose-requires : goal.diagnose-requires
 diagnose-requires c = record {
   can = can-probe c.self.inside.tree c.self.inside.metrics (items_of c.self.inside.items.items) c.self.inside.setting c.self.inside.engine c.self.invariant.0.scene
-      (few-solutions c.self.inside.items.before c.self.inside.engine.earlier c.self.inside.pasts.items c.self.invariant.1);
+      (few-solutions c.self.inside.undo c.self.inside.items.before c.self.inside.engine.earlier c.self.inside.pasts.items c.self.invariant.1);
 }
 
 pub invariant_of-self : goal.invariant_of-self
 invariant_of-self c = (
-  unchanged-IsKept c.self.inside.tree c.self.inside.metrics c.self.inside.items c.self.inside.items c.self.inside.setting c.self.inside.engine c.diagnose.new.e c.self.inside.pasts.items refl c.diagnose.ensures.same c.self.invariant.0,
-  unchanged-AreAlike c.self.inside.tree c.self.inside.metrics c.self.inside.items c.self.inside.items c.self.inside.setting c.self.inside.engine c.diagnose.new.e c.self.inside.pasts.items refl c.diagnose.ensures.same c.self.invariant.1,
+  unchanged-IsKept c.self.inside.tree c.self.inside.metrics c.self.inside.items c.self.inside.items c.self.inside.setting c.self.inside.engine c.diagnose.new.e c.self.inside.pasts.items c.self.inside.undo refl c.diagnose.ensures.same c.self.invariant.0,
+  unchanged-AreAlike c.self.inside.tree c.self.inside.metrics c.self.inside.items c.self.inside.items c.self.inside.setting c.self.inside.engine c.diagnose.new.e c.self.inside.pasts.items c.self.inside.undo refl c.diagnose.ensures.same c.self.invariant.1,
   c.self.invariant.2,
 )
 
@@ -30,4 +30,4 @@ returns-clause-stop c =
 pub returns-clause-same : goal.returns-clause-same
 returns-clause-same c =
     rw (← c.self.view_is)
-    (unchanged c.self.inside.tree c.self.inside.metrics c.self.inside.items c.self.inside.items c.self.inside.setting c.self.inside.engine c.diagnose.new.e c.self.inside.pasts.items refl c.diagnose.ensures.same)
+    (unchanged c.self.inside.tree c.self.inside.metrics c.self.inside.items c.self.inside.items c.self.inside.setting c.self.inside.engine c.diagnose.new.e c.self.inside.pasts.items c.self.inside.undo refl c.diagnose.ensures.same)

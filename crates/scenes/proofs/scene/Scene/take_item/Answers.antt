@@ -24,14 +24,14 @@ returns-in_err-take_more-clause-stop c =
 pub take_more-requires : goal.take_more-requires
 take_more-requires c = record {
   marked = omega (arith, ap length c.in_ok-push_item.ensures.before);
-  room = few-solutions c.self.inside.items.before c.self.inside.engine.earlier c.self.inside.pasts.items c.self.invariant.1;
+  room = few-solutions c.self.inside.undo c.self.inside.items.before c.self.inside.engine.earlier c.self.inside.pasts.items c.self.invariant.1;
   whole = item-whole c.self.inside.tree c.self.inside.metrics (items_of c.self.inside.items.items) c.self.inside.setting c.self.inside.engine c.self.invariant.0.scene c.show_layout.ensures.layout (item_of c.args.item) c.args.rows.now (subst (λ (h : History). IsNextItem h.scene (item_of c.args.item) c.args.rows.now) (sym c.self.view_is) c.requires.next);
   rising = still-rising c.self.inside.engine c.show_layout.ensures.rising;
 }
 
 pub invariant_of-self-2 : goal.invariant_of-self-2
 invariant_of-self-2 c = (
-  next-history c.self.inside.tree c.self.inside.tree c.self.inside.metrics c.self.inside.metrics c.self.inside.items c.self.inside.setting c.self.inside.engine c.self.inside.pasts.items c.alike-past.result (rw c.alike-past.ensures refl) (rw c.alike-past.ensures refl) (rw c.alike-past.ensures refl)
+  next-history c.self.inside.tree c.self.inside.tree c.self.inside.metrics c.self.inside.metrics c.self.inside.items c.self.inside.setting c.self.inside.engine c.self.inside.pasts.items c.self.inside.undo c.alike-past.result (rw c.alike-past.ensures refl) (rw c.alike-past.ensures refl) (rw c.alike-past.ensures refl)
       c.keep.new.items (later c.self.inside.setting (length c.args.rows.now)) c.keep.new.engine c.keep.new.pasts.items c.push_item.new.items.before c.take_more.new.engine.earlier
       c.in_ok-push_item.ensures.before c.in_ok-take_more.ensures.earlier (rw c.in_ok-take_more.ensures.items at c.keep.ensures.items) c.keep.ensures.solutions c.keep.ensures.pasts c.self.invariant.0
       (subst IsKept (kept-scene c.self.inside.tree c.self.inside.metrics c.push_item.new.items.items c.keep.new.items.items (later c.self.inside.setting (length c.args.rows.now)) c.take_more.new.engine c.keep.new.engine (rw c.in_ok-take_more.ensures.items at c.keep.ensures.now) c.keep.ensures.solution)
@@ -52,29 +52,32 @@ returns-clause-solved c =
 
 pub returns-clause-earlier : goal.returns-clause-earlier
 returns-clause-earlier c =
-    rw (← c.self.view_is)
-    (kept-earlier c.self.inside.tree c.self.inside.tree c.self.inside.metrics c.self.inside.metrics c.self.inside.items c.self.inside.setting c.self.inside.engine c.self.inside.pasts.items c.alike-past.result (rw c.alike-past.ensures refl) (rw c.alike-past.ensures refl) (rw c.alike-past.ensures refl)
-    c.push_item.new.items.before c.keep.new.items.before c.take_more.new.engine.earlier c.keep.new.engine.earlier c.keep.new.pasts.items
-    c.in_ok-push_item.ensures.before c.in_ok-take_more.ensures.earlier (rw c.in_ok-take_more.ensures.items at c.keep.ensures.items) c.keep.ensures.solutions c.keep.ensures.pasts)
+    rw (← c.self.view_is) (
+      (kept-earlier c.self.inside.tree c.self.inside.tree c.self.inside.metrics c.self.inside.metrics c.self.inside.items c.self.inside.setting c.self.inside.engine c.self.inside.pasts.items c.self.inside.undo c.alike-past.result (rw c.alike-past.ensures refl) (rw c.alike-past.ensures refl) (rw c.alike-past.ensures refl)
+          c.push_item.new.items.before c.keep.new.items.before c.take_more.new.engine.earlier c.keep.new.engine.earlier c.keep.new.pasts.items
+          c.in_ok-push_item.ensures.before c.in_ok-take_more.ensures.earlier (rw c.in_ok-take_more.ensures.items at c.keep.ensures.items) c.keep.ensures.solutions c.keep.ensures.pasts),
+      refl,
+    )
 
 pub keep-requires : goal.keep-requires
 keep-requires c =
     rw c.in_ok-take_more.ensures.items
     (record {
+      most = c.self.invariant.1.limit;
       few = c.self.invariant.1.few;
       room = c.self.invariant.2;
-      items = more-items c.self.inside.items.before c.self.inside.engine.earlier c.self.inside.pasts.items c.self.invariant.1 c.push_item.new.items.before c.self.inside.items.items c.in_ok-push_item.ensures.before;
-      solutions = more-solutions c.self.inside.items.before c.self.inside.engine.earlier c.self.inside.pasts.items c.self.invariant.1 c.take_more.new.engine.earlier _ c.in_ok-take_more.ensures.earlier;
+      items = more-items c.self.inside.undo c.self.inside.items.before c.self.inside.engine.earlier c.self.inside.pasts.items c.self.invariant.1 c.push_item.new.items.before c.self.inside.items.items c.in_ok-push_item.ensures.before;
+      solutions = more-solutions c.self.inside.undo c.self.inside.items.before c.self.inside.engine.earlier c.self.inside.pasts.items c.self.invariant.1 c.take_more.new.engine.earlier _ c.in_ok-take_more.ensures.earlier;
     })
 
 pub push_item-requires : goal.push_item-requires
-push_item-requires c = few-items c.self.inside.items.before c.self.inside.engine.earlier c.self.inside.pasts.items c.self.invariant.1
+push_item-requires c = few-items c.self.inside.undo c.self.inside.items.before c.self.inside.engine.earlier c.self.inside.pasts.items c.self.invariant.1
 
 pub invariant_of-self-in_err-take_more : goal.invariant_of-self-in_err-take_more
 invariant_of-self-in_err-take_more c =
     let same = refused-items c.self.inside.items c.take_more.new.items c.push_item.new.items.before c.in_ok-push_item.ensures.before c.in_err-take_more.ensures.back in (
-      unchanged-IsKept c.self.inside.tree c.self.inside.metrics c.self.inside.items c.take_more.new.items c.self.inside.setting c.self.inside.engine c.take_more.new.engine c.self.inside.pasts.items same c.in_err-take_more.ensures.same c.self.invariant.0,
-      unchanged-AreAlike c.self.inside.tree c.self.inside.metrics c.self.inside.items c.take_more.new.items c.self.inside.setting c.self.inside.engine c.take_more.new.engine c.self.inside.pasts.items same c.in_err-take_more.ensures.same c.self.invariant.1,
+      unchanged-IsKept c.self.inside.tree c.self.inside.metrics c.self.inside.items c.take_more.new.items c.self.inside.setting c.self.inside.engine c.take_more.new.engine c.self.inside.pasts.items c.self.inside.undo same c.in_err-take_more.ensures.same c.self.invariant.0,
+      unchanged-AreAlike c.self.inside.tree c.self.inside.metrics c.self.inside.items c.take_more.new.items c.self.inside.setting c.self.inside.engine c.take_more.new.engine c.self.inside.pasts.items c.self.inside.undo same c.in_err-take_more.ensures.same c.self.invariant.1,
       c.self.invariant.2,
     )
 
@@ -82,4 +85,4 @@ pub returns-in_err-take_more-clause-same : goal.returns-in_err-take_more-clause-
 returns-in_err-take_more-clause-same c =
     let exit = err_from_is_err_and c.from_residual-in_err-take_more.result c.from_residual-in_err-take_more.ensures.1 in
     rw (exit.1, ← c.self.view_is)
-    (refused-same c.self.inside.tree c.self.inside.metrics c.self.inside.items c.take_more.new.items c.self.inside.setting c.self.inside.engine c.take_more.new.engine c.self.inside.pasts.items c.push_item.new.items.before c.in_ok-push_item.ensures.before c.in_err-take_more.ensures.back c.in_err-take_more.ensures.same)
+    (refused-same c.self.inside.tree c.self.inside.metrics c.self.inside.items c.take_more.new.items c.self.inside.setting c.self.inside.engine c.take_more.new.engine c.self.inside.pasts.items c.self.inside.undo c.push_item.new.items.before c.in_ok-push_item.ensures.before c.in_err-take_more.ensures.back c.in_err-take_more.ensures.same)

@@ -14,7 +14,7 @@ use Rattle.scenes.proofs.scene.Scene.take_items_out.Goals as goal
 pub take_out-requires : goal.take_out-requires
 take_out-requires c =
     rw (c.deref.ensures.value, c.in_ok-rows.ensures, c.as_slice.ensures)
-    (record { marked = omega (arith, ap length c.in_ok-take_leaving_out.ensures.before); room = few-solutions c.self.inside.items.before c.self.inside.engine.earlier c.self.inside.pasts.items c.self.invariant.1; leave = group-can c.self.inside.tree c.self.inside.metrics (items_of c.self.inside.items.items) c.self.inside.setting c.self.inside.engine c.self.invariant.0.scene c.show_layout.ensures.layout (is_leaving c.args.leaver) })
+    (record { marked = omega (arith, ap length c.in_ok-take_leaving_out.ensures.before); room = few-solutions c.self.inside.undo c.self.inside.items.before c.self.inside.engine.earlier c.self.inside.pasts.items c.self.invariant.1; leave = group-can c.self.inside.tree c.self.inside.metrics (items_of c.self.inside.items.items) c.self.inside.setting c.self.inside.engine c.self.invariant.0.scene c.show_layout.ensures.layout (is_leaving c.args.leaver) })
 
 pub returns-in_err-take_out-clause-stop : goal.returns-in_err-take_out-clause-stop
 returns-in_err-take_out-clause-stop c =
@@ -26,7 +26,7 @@ returns-in_err-take_out-clause-stop c =
 
 pub invariant_of-self-2 : goal.invariant_of-self-2
 invariant_of-self-2 c = (
-  next-history c.self.inside.tree c.self.inside.tree c.self.inside.metrics c.self.inside.metrics c.self.inside.items c.self.inside.setting c.self.inside.engine c.self.inside.pasts.items c.alike-past.result (rw c.alike-past.ensures refl) (rw c.alike-past.ensures refl) (rw c.alike-past.ensures refl)
+  next-history c.self.inside.tree c.self.inside.tree c.self.inside.metrics c.self.inside.metrics c.self.inside.items c.self.inside.setting c.self.inside.engine c.self.inside.pasts.items c.self.inside.undo c.alike-past.result (rw c.alike-past.ensures refl) (rw c.alike-past.ensures refl) (rw c.alike-past.ensures refl)
       c.keep.new.items c.self.inside.setting c.keep.new.engine c.keep.new.pasts.items c.take_leaving_out.new.items.before c.take_out.new.engine.earlier
       c.in_ok-take_leaving_out.ensures.before c.in_ok-take_out.ensures.earlier (rw c.in_ok-take_out.ensures.items at c.keep.ensures.items) c.keep.ensures.solutions c.keep.ensures.pasts c.self.invariant.0
       (subst IsKept (kept-scene c.self.inside.tree c.self.inside.metrics c.take_leaving_out.new.items.items c.keep.new.items.items c.self.inside.setting c.take_out.new.engine c.keep.new.engine (rw c.in_ok-take_out.ensures.items at c.keep.ensures.now) c.keep.ensures.solution)
@@ -38,19 +38,22 @@ invariant_of-self-2 c = (
 
 pub returns-clause-earlier : goal.returns-clause-earlier
 returns-clause-earlier c =
-    rw (← c.self.view_is)
-    (kept-earlier c.self.inside.tree c.self.inside.tree c.self.inside.metrics c.self.inside.metrics c.self.inside.items c.self.inside.setting c.self.inside.engine c.self.inside.pasts.items c.alike-past.result (rw c.alike-past.ensures refl) (rw c.alike-past.ensures refl) (rw c.alike-past.ensures refl)
-    c.take_leaving_out.new.items.before c.keep.new.items.before c.take_out.new.engine.earlier c.keep.new.engine.earlier c.keep.new.pasts.items
-    c.in_ok-take_leaving_out.ensures.before c.in_ok-take_out.ensures.earlier (rw c.in_ok-take_out.ensures.items at c.keep.ensures.items) c.keep.ensures.solutions c.keep.ensures.pasts)
+    rw (← c.self.view_is) (
+      (kept-earlier c.self.inside.tree c.self.inside.tree c.self.inside.metrics c.self.inside.metrics c.self.inside.items c.self.inside.setting c.self.inside.engine c.self.inside.pasts.items c.self.inside.undo c.alike-past.result (rw c.alike-past.ensures refl) (rw c.alike-past.ensures refl) (rw c.alike-past.ensures refl)
+          c.take_leaving_out.new.items.before c.keep.new.items.before c.take_out.new.engine.earlier c.keep.new.engine.earlier c.keep.new.pasts.items
+          c.in_ok-take_leaving_out.ensures.before c.in_ok-take_out.ensures.earlier (rw c.in_ok-take_out.ensures.items at c.keep.ensures.items) c.keep.ensures.solutions c.keep.ensures.pasts),
+      refl,
+    )
 
 pub keep-requires : goal.keep-requires
 keep-requires c =
     rw c.in_ok-take_out.ensures.items
     (record {
+      most = c.self.invariant.1.limit;
       few = c.self.invariant.1.few;
       room = c.self.invariant.2;
-      items = more-items c.self.inside.items.before c.self.inside.engine.earlier c.self.inside.pasts.items c.self.invariant.1 c.take_leaving_out.new.items.before c.self.inside.items.items c.in_ok-take_leaving_out.ensures.before;
-      solutions = more-solutions c.self.inside.items.before c.self.inside.engine.earlier c.self.inside.pasts.items c.self.invariant.1 c.take_out.new.engine.earlier _ c.in_ok-take_out.ensures.earlier;
+      items = more-items c.self.inside.undo c.self.inside.items.before c.self.inside.engine.earlier c.self.inside.pasts.items c.self.invariant.1 c.take_leaving_out.new.items.before c.self.inside.items.items c.in_ok-take_leaving_out.ensures.before;
+      solutions = more-solutions c.self.inside.undo c.self.inside.items.before c.self.inside.engine.earlier c.self.inside.pasts.items c.self.invariant.1 c.take_out.new.engine.earlier _ c.in_ok-take_out.ensures.earlier;
     })
 
 pub returns-clause-left : goal.returns-clause-left
@@ -63,13 +66,13 @@ returns-clause-left c =
     (rw (c.deref.ensures.value, c.in_ok-rows.ensures, c.as_slice.ensures) at c.in_ok-take_out.ensures.run)))
 
 pub take_leaving_out-requires : goal.take_leaving_out-requires
-take_leaving_out-requires c = few-items c.self.inside.items.before c.self.inside.engine.earlier c.self.inside.pasts.items c.self.invariant.1
+take_leaving_out-requires c = few-items c.self.inside.undo c.self.inside.items.before c.self.inside.engine.earlier c.self.inside.pasts.items c.self.invariant.1
 
 pub invariant_of-self-in_err-take_out : goal.invariant_of-self-in_err-take_out
 invariant_of-self-in_err-take_out c =
     let same = refused-items c.self.inside.items c.take_out.new.items c.take_leaving_out.new.items.before c.in_ok-take_leaving_out.ensures.before c.in_err-take_out.ensures.back in (
-      unchanged-IsKept c.self.inside.tree c.self.inside.metrics c.self.inside.items c.take_out.new.items c.self.inside.setting c.self.inside.engine c.take_out.new.engine c.self.inside.pasts.items same c.in_err-take_out.ensures.same c.self.invariant.0,
-      unchanged-AreAlike c.self.inside.tree c.self.inside.metrics c.self.inside.items c.take_out.new.items c.self.inside.setting c.self.inside.engine c.take_out.new.engine c.self.inside.pasts.items same c.in_err-take_out.ensures.same c.self.invariant.1,
+      unchanged-IsKept c.self.inside.tree c.self.inside.metrics c.self.inside.items c.take_out.new.items c.self.inside.setting c.self.inside.engine c.take_out.new.engine c.self.inside.pasts.items c.self.inside.undo same c.in_err-take_out.ensures.same c.self.invariant.0,
+      unchanged-AreAlike c.self.inside.tree c.self.inside.metrics c.self.inside.items c.take_out.new.items c.self.inside.setting c.self.inside.engine c.take_out.new.engine c.self.inside.pasts.items c.self.inside.undo same c.in_err-take_out.ensures.same c.self.invariant.1,
       c.self.invariant.2,
     )
 
@@ -77,4 +80,4 @@ pub returns-in_err-take_out-clause-same : goal.returns-in_err-take_out-clause-sa
 returns-in_err-take_out-clause-same c =
     let exit = err_from_is_err_and c.from_residual-in_err-take_out.result c.from_residual-in_err-take_out.ensures.1 in
     rw (exit.1, ← c.self.view_is)
-    (refused-same c.self.inside.tree c.self.inside.metrics c.self.inside.items c.take_out.new.items c.self.inside.setting c.self.inside.engine c.take_out.new.engine c.self.inside.pasts.items c.take_leaving_out.new.items.before c.in_ok-take_leaving_out.ensures.before c.in_err-take_out.ensures.back c.in_err-take_out.ensures.same)
+    (refused-same c.self.inside.tree c.self.inside.metrics c.self.inside.items c.take_out.new.items c.self.inside.setting c.self.inside.engine c.take_out.new.engine c.self.inside.pasts.items c.self.inside.undo c.take_leaving_out.new.items.before c.in_ok-take_leaving_out.ensures.before c.in_err-take_out.ensures.back c.in_err-take_out.ensures.same)

@@ -31,7 +31,7 @@ attributes_from-requires c = (subst (λ (h : History). IsGrown h.scene.tree.view
 
 pub push_views-requires : goal.push_views-requires
 push_views-requires c = record {
-  few = few-items c.self.inside.items.before c.self.inside.engine.earlier c.self.inside.pasts.items c.self.invariant.1;
+  few = few-items c.self.inside.undo c.self.inside.items.before c.self.inside.engine.earlier c.self.inside.pasts.items c.self.invariant.1;
   rows = subst (λ (h : History). h.scene.next_row + 2 * c.args.new.count ≤ 2 ^ 31) (sym c.self.view_is) c.requires.number;
   ids = (subst (λ (h : History). IsGrown h.scene.tree.views c.args.new.tree.views c.args.new.first_view.0 c.args.new.count) (sym c.self.view_is) c.requires.grown).small;
 }
@@ -41,7 +41,7 @@ take_more-requires c =
     rw (c.deref.ensures.value, c.in_ok-attrs.ensures, c.deref-2.ensures.value)
     (record {
       marked = omega (arith, ap length c.in_ok-push_views.ensures.before);
-      room = few-solutions c.self.inside.items.before c.self.inside.engine.earlier c.self.inside.pasts.items c.self.invariant.1;
+      room = few-solutions c.self.inside.undo c.self.inside.items.before c.self.inside.engine.earlier c.self.inside.pasts.items c.self.invariant.1;
       whole = views-whole c.self.inside.tree.views c.args.new.tree.views c.self.inside.setting.next_row c.args.new.first_view.0 c.args.new.count c.self.inside.engine (settled c.self.inside.engine c.show_layout.ensures.layout) c.self.invariant.0.scene.counted (subst (λ (h : History). IsGrown h.scene.tree.views c.args.new.tree.views c.args.new.first_view.0 c.args.new.count) (sym c.self.view_is) c.requires.grown) c.in_ok-rows.rows.items c.in_ok-rows.ensures.rows c.in_ok-rows.ensures.each (subst (λ (h : History). length h.scene.rows + 2 * c.args.new.count ≤ 2000) (sym c.self.view_is) c.requires.room);
       rising = views-rising c.self.inside.tree.views c.args.new.tree.views c.self.inside.setting.next_row c.args.new.first_view.0 c.args.new.count c.self.inside.engine (settled c.self.inside.engine c.show_layout.ensures.layout) c.self.invariant.0.scene.counted (subst (λ (h : History). IsGrown h.scene.tree.views c.args.new.tree.views c.args.new.first_view.0 c.args.new.count) (sym c.self.view_is) c.requires.grown);
     })
@@ -66,7 +66,7 @@ returns-in_err-take_more-clause-free c =
 pub invariant_of-self-2 : goal.invariant_of-self-2
 invariant_of-self-2 c =
     rw c.replace.ensures.after (
-      next-history c.self.inside.tree c.args.new.tree c.self.inside.metrics c.self.inside.metrics c.self.inside.items c.self.inside.setting c.self.inside.engine c.self.inside.pasts.items c.with_tree-past.result (rw c.with_tree-past.ensures c.replace.ensures.value) (rw c.with_tree-past.ensures refl) (rw c.with_tree-past.ensures refl)
+      next-history c.self.inside.tree c.args.new.tree c.self.inside.metrics c.self.inside.metrics c.self.inside.items c.self.inside.setting c.self.inside.engine c.self.inside.pasts.items c.self.inside.undo c.with_tree-past.result (rw c.with_tree-past.ensures c.replace.ensures.value) (rw c.with_tree-past.ensures refl) (rw c.with_tree-past.ensures refl)
           c.keep.new.items (later c.self.inside.setting (2 * c.args.new.count)) c.keep.new.engine c.keep.new.pasts.items c.push_views.new.items.before c.take_more.new.engine.earlier
           c.in_ok-push_views.ensures.before c.in_ok-take_more.ensures.earlier (rw c.in_ok-take_more.ensures.items at c.keep.ensures.items) c.keep.ensures.solutions c.keep.ensures.pasts c.self.invariant.0
           (subst IsKept (kept-scene c.args.new.tree c.self.inside.metrics c.push_views.new.items.items c.keep.new.items.items (later c.self.inside.setting (2 * c.args.new.count)) c.take_more.new.engine c.keep.new.engine (rw c.in_ok-take_more.ensures.items at c.keep.ensures.now) c.keep.ensures.solution)
@@ -83,19 +83,22 @@ invariant_of-self-2 c =
 
 pub returns-clause-earlier : goal.returns-clause-earlier
 returns-clause-earlier c =
-    rw (← c.self.view_is, c.replace.ensures.after)
-    (kept-earlier c.self.inside.tree c.args.new.tree c.self.inside.metrics c.self.inside.metrics c.self.inside.items c.self.inside.setting c.self.inside.engine c.self.inside.pasts.items c.with_tree-past.result (rw c.with_tree-past.ensures c.replace.ensures.value) (rw c.with_tree-past.ensures refl) (rw c.with_tree-past.ensures refl)
-    c.push_views.new.items.before c.keep.new.items.before c.take_more.new.engine.earlier c.keep.new.engine.earlier c.keep.new.pasts.items
-    c.in_ok-push_views.ensures.before c.in_ok-take_more.ensures.earlier (rw c.in_ok-take_more.ensures.items at c.keep.ensures.items) c.keep.ensures.solutions c.keep.ensures.pasts)
+    rw (← c.self.view_is, c.replace.ensures.after) (
+      (kept-earlier c.self.inside.tree c.args.new.tree c.self.inside.metrics c.self.inside.metrics c.self.inside.items c.self.inside.setting c.self.inside.engine c.self.inside.pasts.items c.self.inside.undo c.with_tree-past.result (rw c.with_tree-past.ensures c.replace.ensures.value) (rw c.with_tree-past.ensures refl) (rw c.with_tree-past.ensures refl)
+          c.push_views.new.items.before c.keep.new.items.before c.take_more.new.engine.earlier c.keep.new.engine.earlier c.keep.new.pasts.items
+          c.in_ok-push_views.ensures.before c.in_ok-take_more.ensures.earlier (rw c.in_ok-take_more.ensures.items at c.keep.ensures.items) c.keep.ensures.solutions c.keep.ensures.pasts),
+      refl,
+    )
 
 pub keep-requires : goal.keep-requires
 keep-requires c =
     rw c.in_ok-take_more.ensures.items
     (record {
+      most = c.self.invariant.1.limit;
       few = c.self.invariant.1.few;
       room = c.self.invariant.2;
-      items = more-items c.self.inside.items.before c.self.inside.engine.earlier c.self.inside.pasts.items c.self.invariant.1 c.push_views.new.items.before c.self.inside.items.items c.in_ok-push_views.ensures.before;
-      solutions = more-solutions c.self.inside.items.before c.self.inside.engine.earlier c.self.inside.pasts.items c.self.invariant.1 c.take_more.new.engine.earlier _ c.in_ok-take_more.ensures.earlier;
+      items = more-items c.self.inside.undo c.self.inside.items.before c.self.inside.engine.earlier c.self.inside.pasts.items c.self.invariant.1 c.push_views.new.items.before c.self.inside.items.items c.in_ok-push_views.ensures.before;
+      solutions = more-solutions c.self.inside.undo c.self.inside.items.before c.self.inside.engine.earlier c.self.inside.pasts.items c.self.invariant.1 c.take_more.new.engine.earlier _ c.in_ok-take_more.ensures.earlier;
     })
 
 pub returns-clause-solved : goal.returns-clause-solved
@@ -110,8 +113,8 @@ returns-clause-solved c =
 pub invariant_of-self-in_err-take_more : goal.invariant_of-self-in_err-take_more
 invariant_of-self-in_err-take_more c =
     let same = refused-items c.self.inside.items c.take_more.new.items c.push_views.new.items.before c.in_ok-push_views.ensures.before c.in_err-take_more.ensures.back in (
-      unchanged-IsKept c.self.inside.tree c.self.inside.metrics c.self.inside.items c.take_more.new.items c.self.inside.setting c.self.inside.engine c.take_more.new.engine c.self.inside.pasts.items same c.in_err-take_more.ensures.same c.self.invariant.0,
-      unchanged-AreAlike c.self.inside.tree c.self.inside.metrics c.self.inside.items c.take_more.new.items c.self.inside.setting c.self.inside.engine c.take_more.new.engine c.self.inside.pasts.items same c.in_err-take_more.ensures.same c.self.invariant.1,
+      unchanged-IsKept c.self.inside.tree c.self.inside.metrics c.self.inside.items c.take_more.new.items c.self.inside.setting c.self.inside.engine c.take_more.new.engine c.self.inside.pasts.items c.self.inside.undo same c.in_err-take_more.ensures.same c.self.invariant.0,
+      unchanged-AreAlike c.self.inside.tree c.self.inside.metrics c.self.inside.items c.take_more.new.items c.self.inside.setting c.self.inside.engine c.take_more.new.engine c.self.inside.pasts.items c.self.inside.undo same c.in_err-take_more.ensures.same c.self.invariant.1,
       c.self.invariant.2,
     )
 
@@ -119,4 +122,4 @@ pub returns-in_err-take_more-clause-same : goal.returns-in_err-take_more-clause-
 returns-in_err-take_more-clause-same c =
     let exit = err_from_is_err_and c.from_residual-in_err-take_more.result c.from_residual-in_err-take_more.ensures.1 in
     rw (exit.1, ← c.self.view_is)
-    (refused-same c.self.inside.tree c.self.inside.metrics c.self.inside.items c.take_more.new.items c.self.inside.setting c.self.inside.engine c.take_more.new.engine c.self.inside.pasts.items c.push_views.new.items.before c.in_ok-push_views.ensures.before c.in_err-take_more.ensures.back c.in_err-take_more.ensures.same)
+    (refused-same c.self.inside.tree c.self.inside.metrics c.self.inside.items c.take_more.new.items c.self.inside.setting c.self.inside.engine c.take_more.new.engine c.self.inside.pasts.items c.self.inside.undo c.push_views.new.items.before c.in_ok-push_views.ensures.before c.in_err-take_more.ensures.back c.in_err-take_more.ensures.same)

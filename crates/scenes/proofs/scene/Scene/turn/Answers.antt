@@ -10,21 +10,22 @@ use Rattle.scenes.proofs.Turned.{turned, turned-is, turned-kept}
 use Rattle.scenes.proofs.scene.Scene.turn.Goals as goal
 
 pub stand-requires : goal.stand-requires
-stand-requires c = record { room = few-solutions c.self.inside.items.before c.self.inside.engine.earlier c.self.inside.pasts.items c.self.invariant.1 }
+stand-requires c = record { room = few-solutions c.self.inside.undo c.self.inside.items.before c.self.inside.engine.earlier c.self.inside.pasts.items c.self.invariant.1 }
 
 pub keep-requires : goal.keep-requires
 keep-requires c = record {
+  most = c.self.invariant.1.limit;
   few = c.self.invariant.1.few;
   room = c.self.invariant.2;
-  items = more-items c.self.inside.items.before c.self.inside.engine.earlier c.self.inside.pasts.items c.self.invariant.1 c.mark.new.self.before c.self.inside.items.items (marked-all c.self.inside.items.before c.mark.new.self.before c.self.inside.items.items (few-items c.self.inside.items.before c.self.inside.engine.earlier c.self.inside.pasts.items c.self.invariant.1) c.mark.ensures.before);
-  solutions = more-solutions c.self.inside.items.before c.self.inside.engine.earlier c.self.inside.pasts.items c.self.invariant.1 c.stand.new.self.earlier _ c.in_ok-stand.ensures.earlier;
+  items = more-items c.self.inside.undo c.self.inside.items.before c.self.inside.engine.earlier c.self.inside.pasts.items c.self.invariant.1 c.mark.new.self.before c.self.inside.items.items (marked-all c.self.inside.items.before c.mark.new.self.before c.self.inside.items.items (few-items c.self.inside.undo c.self.inside.items.before c.self.inside.engine.earlier c.self.inside.pasts.items c.self.invariant.1) c.mark.ensures.before);
+  solutions = more-solutions c.self.inside.undo c.self.inside.items.before c.self.inside.engine.earlier c.self.inside.pasts.items c.self.invariant.1 c.stand.new.self.earlier _ c.in_ok-stand.ensures.earlier;
 }
 
 pub invariant_of-self-2 : goal.invariant_of-self-2
 invariant_of-self-2 c = (
-  next-history c.self.inside.tree c.self.inside.tree c.self.inside.metrics c.self.inside.metrics c.self.inside.items c.self.inside.setting c.self.inside.engine c.self.inside.pasts.items c.alike-past.result (rw c.alike-past.ensures refl) (rw c.alike-past.ensures refl) (rw c.alike-past.ensures refl)
+  next-history c.self.inside.tree c.self.inside.tree c.self.inside.metrics c.self.inside.metrics c.self.inside.items c.self.inside.setting c.self.inside.engine c.self.inside.pasts.items c.self.inside.undo c.alike-past.result (rw c.alike-past.ensures refl) (rw c.alike-past.ensures refl) (rw c.alike-past.ensures refl)
       c.keep.new.items (turned c.self.inside.setting c.args.to) c.keep.new.engine c.keep.new.pasts.items c.mark.new.self.before c.stand.new.self.earlier
-      (marked-all c.self.inside.items.before c.mark.new.self.before c.self.inside.items.items (few-items c.self.inside.items.before c.self.inside.engine.earlier c.self.inside.pasts.items c.self.invariant.1) c.mark.ensures.before) c.in_ok-stand.ensures.earlier c.keep.ensures.items c.keep.ensures.solutions c.keep.ensures.pasts c.self.invariant.0
+      (marked-all c.self.inside.items.before c.mark.new.self.before c.self.inside.items.items (few-items c.self.inside.undo c.self.inside.items.before c.self.inside.engine.earlier c.self.inside.pasts.items c.self.invariant.1) c.mark.ensures.before) c.in_ok-stand.ensures.earlier c.keep.ensures.items c.keep.ensures.solutions c.keep.ensures.pasts c.self.invariant.0
       (subst IsKept (kept-scene c.self.inside.tree c.self.inside.metrics c.self.inside.items.items c.keep.new.items.items (turned c.self.inside.setting c.args.to) c.stand.new.self c.keep.new.engine (c.keep.ensures.now ∙ c.mark.ensures.items) c.keep.ensures.solution)
       (turned-kept c.self.inside.tree c.self.inside.metrics (items_of c.self.inside.items.items) c.self.inside.setting c.self.inside.engine c.self.invariant.0.scene c.show_layout.ensures.layout c.args.to c.stand.new.self c.in_ok-stand.ensures.problem)),
   c.keep.ensures.alike,
@@ -50,15 +51,17 @@ returns-clause-best c =
 
 pub returns-clause-earlier : goal.returns-clause-earlier
 returns-clause-earlier c =
-    rw (← c.self.view_is)
-    (kept-earlier c.self.inside.tree c.self.inside.tree c.self.inside.metrics c.self.inside.metrics c.self.inside.items c.self.inside.setting c.self.inside.engine c.self.inside.pasts.items c.alike-past.result (rw c.alike-past.ensures refl) (rw c.alike-past.ensures refl) (rw c.alike-past.ensures refl)
-    c.mark.new.self.before c.keep.new.items.before c.stand.new.self.earlier c.keep.new.engine.earlier c.keep.new.pasts.items
-    (marked-all c.self.inside.items.before c.mark.new.self.before c.self.inside.items.items (few-items c.self.inside.items.before c.self.inside.engine.earlier c.self.inside.pasts.items c.self.invariant.1) c.mark.ensures.before) c.in_ok-stand.ensures.earlier c.keep.ensures.items c.keep.ensures.solutions c.keep.ensures.pasts)
+    rw (← c.self.view_is) (
+      (kept-earlier c.self.inside.tree c.self.inside.tree c.self.inside.metrics c.self.inside.metrics c.self.inside.items c.self.inside.setting c.self.inside.engine c.self.inside.pasts.items c.self.inside.undo c.alike-past.result (rw c.alike-past.ensures refl) (rw c.alike-past.ensures refl) (rw c.alike-past.ensures refl)
+          c.mark.new.self.before c.keep.new.items.before c.stand.new.self.earlier c.keep.new.engine.earlier c.keep.new.pasts.items
+          (marked-all c.self.inside.items.before c.mark.new.self.before c.self.inside.items.items (few-items c.self.inside.undo c.self.inside.items.before c.self.inside.engine.earlier c.self.inside.pasts.items c.self.invariant.1) c.mark.ensures.before) c.in_ok-stand.ensures.earlier c.keep.ensures.items c.keep.ensures.solutions c.keep.ensures.pasts),
+      refl,
+    )
 
 pub invariant_of-self : goal.invariant_of-self
 invariant_of-self c = (
-  unchanged-IsKept c.self.inside.tree c.self.inside.metrics c.self.inside.items c.self.inside.items c.self.inside.setting c.self.inside.engine c.stand.new.self c.self.inside.pasts.items refl c.in_err-stand.ensures.same c.self.invariant.0,
-  unchanged-AreAlike c.self.inside.tree c.self.inside.metrics c.self.inside.items c.self.inside.items c.self.inside.setting c.self.inside.engine c.stand.new.self c.self.inside.pasts.items refl c.in_err-stand.ensures.same c.self.invariant.1,
+  unchanged-IsKept c.self.inside.tree c.self.inside.metrics c.self.inside.items c.self.inside.items c.self.inside.setting c.self.inside.engine c.stand.new.self c.self.inside.pasts.items c.self.inside.undo refl c.in_err-stand.ensures.same c.self.invariant.0,
+  unchanged-AreAlike c.self.inside.tree c.self.inside.metrics c.self.inside.items c.self.inside.items c.self.inside.setting c.self.inside.engine c.stand.new.self c.self.inside.pasts.items c.self.inside.undo refl c.in_err-stand.ensures.same c.self.invariant.1,
   c.self.invariant.2,
 )
 
@@ -66,4 +69,4 @@ pub returns-in_err-stand-clause-same : goal.returns-in_err-stand-clause-same
 returns-in_err-stand-clause-same c =
     let exit = err_from_is_err_and c.from_residual.result c.from_residual.ensures.1 in
     rw (exit.1, ← c.self.view_is)
-    (unchanged c.self.inside.tree c.self.inside.metrics c.self.inside.items c.self.inside.items c.self.inside.setting c.self.inside.engine c.stand.new.self c.self.inside.pasts.items refl c.in_err-stand.ensures.same)
+    (unchanged c.self.inside.tree c.self.inside.metrics c.self.inside.items c.self.inside.items c.self.inside.setting c.self.inside.engine c.stand.new.self c.self.inside.pasts.items c.self.inside.undo refl c.in_err-stand.ensures.same)

@@ -1,5 +1,5 @@
-use Rattle.std.proofs.Common.{ap}
-use Rattle.session_undo.specs.Kept.{session_at}
+use Rattle.std.proofs.Common.{ap, subst, sym}
+use Rattle.session_undo.specs.Kept.{AreLimitsOf, limits_of, session_at}
 use Rattle.scenes.specs.Scene.{History}
 use Rattle.session_undo.proofs.Commands.Diagnosed.{found-answer, stop-answer}
 use Rattle.session_undo.proofs.Commands.Steps.{after}
@@ -23,3 +23,6 @@ returns-clause-refused c =
       | in-Err w ↦ rw (w.result-is, w.probe_refusal.ensures, ← c.self.view_is)
           (stop-answer old w.in-Err.stopped.attr w.in-Err.stopped.stop w.in-Err.ensures.stop)
     ]
+
+pub invariant_of-self : goal.invariant_of-self
+invariant_of-self c = (c.self.invariant.0, subst (λ (h : History). AreLimitsOf h (limits_of c.self.inside.limits)) (sym c.diagnose.ensures.same) c.self.invariant.1)

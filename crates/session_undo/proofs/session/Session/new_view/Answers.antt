@@ -25,7 +25,7 @@ returns-in_err-new-clause-refused c =
     let asked : IsAsked old c.args.name.now c.args.parent.now c.in-Some.above.0 = record {
       found = rw c.tree.ensures at c.in-Some.ensures;
       named = rw (← c.self.view_is) at c.in_ok-free_name.ensures.free;
-      within = c.self.invariant;
+      most = c.self.invariant.1.scene;
     } in
     let exit = err_from_is_err_and c.from_residual-in_err-new.result c.from_residual-in_err-new.ensures.1 in
     rw (exit.1, exit.2, ← c.self.view_is)
@@ -38,7 +38,7 @@ returns-then-is_crowded-clause-refused c =
     let asked : IsAsked old c.args.name.now c.args.parent.now c.in-Some.above.0 = record {
       found = rw c.tree.ensures at c.in-Some.ensures;
       named = rw (← c.self.view_is) at c.in_ok-free_name.ensures.free;
-      within = c.self.invariant;
+      most = c.self.invariant.1.scene;
     } in
     rw (← c.self.view_is)
     (view-full old c.args.name.now c.args.parent.now c.in-Some.above.0 NoEnd asked c.in_ok-new.new (rw (← c.self.view_is) at c.in_ok-new.ensures.made) (rw (← c.self.view_is) at (c.if-is_crowded.ensures.yes refl)))
@@ -49,7 +49,7 @@ returns-clause-made c =
     let asked : IsAsked old c.args.name.now c.args.parent.now c.in-Some.above.0 = record {
       found = rw c.tree.ensures at c.in-Some.ensures;
       named = rw (← c.self.view_is) at c.in_ok-free_name.ensures.free;
-      within = c.self.invariant;
+      most = c.self.invariant.1.scene;
     } in
     rw (← c.self.view_is)
     (view-free old c.args.name.now c.args.parent.now c.in-Some.above.0 c.in_ok-new.new asked (rw (← c.self.view_is) at c.in_ok-new.ensures.made) (rw (← c.self.view_is) at (c.if-is_crowded.ensures.no refl)))

@@ -7,5 +7,5 @@ abbrev pub invariant-loop-view : goal.invariant-loop-view
 invariant-loop-view l = record {
   new : AreNew l.self (drop l.view-index (pairs_of l.views));
   same : grown l.self (drop l.view-index (pairs_of l.views)) ≡ grown l.fn.self (pairs_of l.views);
-  later : (views : List LiveView) × (l.self ≡ record { views = l.fn.self.views ++ views; next = l.fn.self.next + length views });
+  later : (views : List LiveView) × (l.self ≡ record l.fn.self { views = l.fn.self.views ++ views; next = l.fn.self.next + length views });
 }

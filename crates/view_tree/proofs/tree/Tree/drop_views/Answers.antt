@@ -10,9 +10,9 @@ invariant_of-self c =
     let root : ℕ = c.requires.0 in
     let are : AreGoing (map live_view c.self.inside.table) root c.args.gone.now = subst (λ (t : ViewTree). AreGoing t.views root c.args.gone.now) (sym c.self.view_is) c.requires.2 in
     rw c.drop_nodes.ensures
-    (AreKept-left (is_among c.args.gone.now) c.self.inside.table c.self.inside.next c.self.invariant
+    (AreKept-left (is_among c.args.gone.now) c.self.inside.table c.self.inside.next c.self.inside.most c.self.invariant
     (window-stays (map live_view c.self.inside.table) root c.args.gone.now are c.requires.1 c.self.invariant.tree.root)
     (closed (map live_view c.self.inside.table) root c.args.gone.now are))
 
 pub returns : goal.returns
-returns c = rw (← c.self.view_is, c.drop_nodes.ensures) (kept_tree-left (is_among c.args.gone.now) c.self.inside.table c.self.inside.next)
+returns c = rw (← c.self.view_is, c.drop_nodes.ensures) (kept_tree-left (is_among c.args.gone.now) c.self.inside.table c.self.inside.next c.self.inside.most)

@@ -1,0 +1,5 @@
+pub mod Marks
+pub mod Lines
+pub mod Hosts
+pub mod Laws
+pub mod Constants

@@ -1,5 +1,0 @@
-use Rattle.view_tree.proofs.NodeLemmas.{AreKept-window}
-use Rattle.view_tree.proofs.tree.Tree.new.Goals as goal
-
-pub invariant_of-result : goal.invariant_of-result
-invariant_of-result c = rw (c.in_ok-add.ensures.added, c.new-table.ensures) AreKept-window
