@@ -5,10 +5,10 @@ ghost use Rattle.cert_core.specs.Stops.{IsShownConflict};
 ghost use Rattle.conflict_core.specs.Cores.{trial};
 ghost use Rattle.conflict_core.specs.Shown.{IsFound};
 ghost use Rattle.conflict_core.specs.Searches.{AreTrials};
-ghost use Rattle.conflict_core.specs.Trials.{HasRisingStays, IsCoreStop, nothing};
+ghost use Rattle.conflict_core.specs.Trials.{IsCoreStop, nothing};
 
 use crate::found::{CoreStop, Found};
-use crate::listing::{attributes, required_rows};
+use crate::listing::{attributes, numbers, required_rows};
 use crate::search::{begun, searched};
 use crate::trials::{Outcome, Trials, tried};
 use crate::yielding::hasten;
@@ -74,15 +74,17 @@ fn found_anew_among(alloc: Global, t: &Trials, by: Conflict) -> Result<Found, Co
 /// `Unfit` and `Spent` are those of one trial, an addition of the rows that are named as held to an engine
 /// that holds nothing, with the whole budget.
 pub fn core(alloc: Global, p: &Problem, budget: u64) -> Result<Found, CoreStop>
-    requires rising { HasRisingStays p.now }
     ensures found { IfOk result (IsFound p.now) }
     ensures stop { IfErr result (IsCoreStop p.now budget) }
 {
+    p.show_whole(); // for the proof: what a problem keeps
     let attrs = attributes(alloc, p)?;
+    let numbers = numbers(alloc, p)?;
     let all = required_rows(alloc, p)?;
     let trials = Trials {
         problem: p,
         attrs: &attrs,
+        numbers: &numbers,
         budget,
     };
     found_anew(alloc, &trials, &all)
@@ -93,15 +95,17 @@ pub fn core(alloc: Global, p: &Problem, budget: u64) -> Result<Found, CoreStop>
 ///
 /// The stops are those of `core`.
 pub fn core_among(alloc: Global, p: &Problem, by: Conflict, budget: u64) -> Result<Found, CoreStop>
-    requires rising { HasRisingStays p.now }
     requires shown { IsShownConflict p.now by }
     ensures found { IfOk result (IsFound p.now) }
     ensures stop { IfErr result (IsCoreStop p.now budget) }
 {
+    p.show_whole(); // for the proof: what a problem keeps
     let attrs = attributes(alloc, p)?;
+    let numbers = numbers(alloc, p)?;
     let trials = Trials {
         problem: p,
         attrs: &attrs,
+        numbers: &numbers,
         budget,
     };
     found_anew_among(alloc, &trials, by)

@@ -83,6 +83,7 @@ fn push_attr_slots(table: &mut Table, attr: u32, target: Frac, at: u32) -> Resul
     let attr_slot = Slot {
         owner: Owner::Attr(attr),
         home: at,
+        rank: at,
         weight: 1,
         scale: 1,
         rel: problem_core::Rel::Eq,
@@ -92,6 +93,7 @@ fn push_attr_slots(table: &mut Table, attr: u32, target: Frac, at: u32) -> Resul
     let stay_slot = Slot {
         owner: Owner::Line(RowName::Stay(attr)),
         home: at + 1,
+        rank: at + 1,
         ..attr_slot
     };
     let none = IntRow::empty(table.alloc);
@@ -318,9 +320,11 @@ fn slot_of(row: &Row) -> Slot
     requires { IsRow row.now }
     ensures { result ≡ slot_of_row row.now }
 {
+    let home = u32::from(REQUIRED - row.rank());
     Slot {
         owner: Owner::Line(RowName::Held(row.id())),
-        home: u32::from(REQUIRED - row.rank()),
+        home,
+        rank: home,
         weight: i64::from(row.weight()),
         scale: row.scale(),
         rel: row.rel(),

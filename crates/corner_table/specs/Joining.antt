@@ -49,7 +49,7 @@ with_level level t = record {
   rows = t.rows;
   stays = t.stays;
   slots = t.slots
-      ++ (record { owner = LevelSlot; home = level; weight = pos 1; scale = pos 1; rel = Eq } ∷ []);
+      ++ (record { owner = LevelSlot; home = level; rank = level; weight = pos 1; scale = pos 1; rel = Eq } ∷ []);
   standings = t.standings ++ (record { side = None; value = zero_fraction } ∷ []);
   matrix = t.matrix ++ ([] ∷ []);
   attr_slots = t.attr_slots;
@@ -93,23 +93,33 @@ at_value value = record { side = None; value = value }
 
 -- what the slot w says where it is the attribute's
 abbrev pub slot_of_attr : ℕ → ℕ → Slot
-slot_of_attr attr w = record { owner = AttrSlot attr; home = w; weight = pos 1; scale = pos 1; rel = Eq }
-
--- what the slot w says where it is that of the attribute's stay: its home is itself
-abbrev pub slot_of_stay : ℕ → ℕ → Slot
-slot_of_stay attr w = record {
-  owner = LineSlot (StayOf attr);
+slot_of_attr attr w = record {
+  owner = AttrSlot attr;
   home = w;
+  rank = w;
   weight = pos 1;
   scale = pos 1;
   rel = Eq;
 }
 
--- what the row's slot says: its home is the slot of the row's level
+-- what the slot w says where it is that of the attribute's stay: its home is itself, and its rank at first
+-- its number
+abbrev pub slot_of_stay : ℕ → ℕ → Slot
+slot_of_stay attr w = record {
+  owner = LineSlot (StayOf attr);
+  home = w;
+  rank = w;
+  weight = pos 1;
+  scale = pos 1;
+  rel = Eq;
+}
+
+-- what the row's slot says: its home is the slot of the row's level, and its rank that level's
 abbrev pub slot_of_row : Row → Slot
 slot_of_row r = record {
   owner = LineSlot (Held r.id);
   home = rank_level r.rank;
+  rank = rank_level r.rank;
   weight = pos r.weight;
   scale = pos r.scale;
   rel = r.rel;

@@ -27,7 +27,7 @@ use Rattle.corner_table.specs.declared.table.Owner.TheVariants.{Line as LineSlot
 use Rattle.corner_table.specs.declared.table.TheConstants.{LEVELS}
 use Rattle.corner_table.specs.Tables.{Lists, attr_slot, entry, line_slot, marks_at, number, priority_at}
 use Rattle.corner_table.specs.Tables.{problem_of}
-use Rattle.corner_table.specs.Tables.{row_at, slot_at, standing_at}
+use Rattle.corner_table.specs.Tables.{row_at, slot_at, standing_at, stay_rank}
 
 -- ---- slots
 
@@ -60,8 +60,9 @@ IsOwned t w LevelSlot = Unit {0}
 IsOwned t w (AttrSlot attr) = HasStay t.stays attr × (attr_slot t attr ≡ w)
 IsOwned t w (LineSlot name) = Any (λ l. l.name ≡ name) (lines (problem_of t)) × (line_slot t name ≡ w)
 
--- each attribute, stay and row has a slot, and each slot past the levels' is one of theirs or of nothing; the
--- stays' come in order, and another slot may follow each
+-- each attribute, stay and row has a slot, and each slot past the levels' is one of theirs or of nothing, and
+-- another slot may follow an attribute's; a level is stronger than another where its rank is lower: those of
+-- the priority levels are their numbers, and those of the stays' come in their order, behind them
 pub record AreSlots (t : Lists) : Type 0 where
   pub standings : length t.standings ≡ length t.slots
   pub matrix : length t.matrix ≡ length t.slots
@@ -73,7 +74,9 @@ pub record AreSlots (t : Lists) : Type 0 where
   pub owners : (w : ℕ) → IsSlot t w → IsOwned t w (slot_at t w).owner
   pub level_owners : (w : ℕ) → w < LEVELS → (slot_at t w).owner ≡ LevelSlot
   pub level_homes : (w : ℕ) → w < LEVELS → (slot_at t w).home ≡ w
-  pub stays_rise : AllPairs (λ s r. attr_slot t s.attr < attr_slot t r.attr) t.stays
+  pub level_ranks : (w : ℕ) → w < LEVELS → (slot_at t w).rank ≡ w
+  pub stay_ranks : All (λ s. (LEVELS ≤ stay_rank t s.attr) × (stay_rank t s.attr < length t.slots)) t.stays
+  pub stays_rise : AllPairs (λ s r. stay_rank t s.attr < stay_rank t r.attr) t.stays
 
 -- the slot is a line's
 abbrev pub IsLineAt : Lists → ℕ → Type 0

@@ -9,7 +9,7 @@
 //! ```
 //! let mut table = new_table(alloc)?;            // the slots of the priority levels, and nothing else
 //! mark(&mut table);
-//! let slot = Slot { owner: Owner::Attr(1), home: LEVELS, weight: 1, scale: 1, rel: Rel::Eq };
+//! let slot = Slot { owner: Owner::Attr(1), home: LEVELS, rank: LEVELS, weight: 1, scale: 1, rel: Rel::Eq };
 //! push_slot(&mut table, slot, None, Frac::zero(), row)?;
 //! value_at(&table, LEVELS);                     // 0
 //! back(&mut table);                             // the slots of the levels alone

@@ -32,12 +32,14 @@ pub enum Owner {
     Line(RowName),
 }
 
-/// What does not change of a slot. The home is the slot of a line's level, a stay's own; only lines have
-/// the rest.
+/// What an exchange does not change of a slot. The home is the slot of a line's level, a stay's own, and the
+/// rank says which of two levels is stronger: the one of the lower rank. It is the home's number until the
+/// stays come in another order. Only lines have the rest.
 #[derive(Clone, Copy, Debug, PartialEq, Eq)]
 pub struct Slot {
     pub owner: Owner,
     pub home: u32,
+    pub rank: u32,
     pub weight: i64,
     pub scale: i64,
     pub rel: Rel,
@@ -106,6 +108,7 @@ fn push_level(table: &mut Table, level: u32) -> Result<(), OutOfMemory>
     let slot = Slot {
         owner: Owner::Level,
         home: level,
+        rank: level,
         weight: 1,
         scale: 1,
         rel: Rel::Eq,

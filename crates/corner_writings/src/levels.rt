@@ -4,7 +4,7 @@ pub(crate) mod growing;
 
 ghost use Rattle.std.specs.Prelude.{◌≡◌, ◌*ℤ◌, ◌<◌, ◌≤◌, length, All, AllPairs, Contains, IfSome, IfNone};
 ghost use Rattle.std.specs.Prelude.{OnOk};
-ghost use Rattle.std.specs.Prelude.{ℕ, [], None, true, false, ◌↔◌};
+ghost use Rattle.std.specs.Prelude.{ℕ, [], None, Some, true, false, ◌↔◌};
 ghost use Rattle.frac_core.specs.Fraction.{IsFitting};
 ghost use Rattle.problem_core.specs.declared.parts.Level as level_type;
 ghost use Rattle.problem_core.specs.Levels.{IsCostAt, IsLevelAt};
@@ -186,7 +186,40 @@ fn has_reduced(table: &Table, l: u32, line: u32, side: Side) -> bool
     has_cost(table, l) && reduced_of(table, l, line, side) != 0
 }
 
-// The first of them in the line's column.
+// Which level of a slot is the stronger: that of the lower rank.
+fn rank_at(table: &Table, w: u32) -> u32
+    requires { w < length table.now.slots.items }
+    ensures { result ≡ (tables.slot_at (lists_of table.now) w).rank }
+{
+    slot_at(table, w).rank
+}
+
+// Whether the level of a slot is stronger than that of another.
+fn is_lower(table: &Table, l: u32, w: u32) -> bool
+    requires within { l < length table.now.slots.items }
+    requires other { w < length table.now.slots.items }
+    ensures { (result ≡ true)
+        ↔ ((tables.slot_at (lists_of table.now) l).rank < (tables.slot_at (lists_of table.now) w).rank) }
+{
+    rank_at(table, l) < rank_at(table, w)
+}
+
+// Whether the slot's level is stronger than the one that is found so far.
+fn is_before(table: &Table, l: u32, found: Option<u32>) -> bool
+    requires within { l < length table.now.slots.items }
+    requires found { IfSome found (λ best. best < length table.now.slots.items) }
+    ensures yes { result ≡ true → IfSome found (λ best.
+        (tables.slot_at (lists_of table.now) l).rank < (tables.slot_at (lists_of table.now) best).rank) }
+    ensures no { result ≡ false → (best : ℕ) × (found ≡ Some best)
+        × ((tables.slot_at (lists_of table.now) best).rank ≤ (tables.slot_at (lists_of table.now) l).rank) }
+{
+    match found {
+        Some(best) => rank_at(table, l) < rank_at(table, best),
+        None => true,
+    }
+}
+
+// The strongest of them in the line's column. A priority level has a lower slot than each that is weaker.
 fn first_in_column(table: &Table, line: u32, side: Side) -> Option<u32>
     requires kept { IsKept (lists_of table.now) }
     requires line { IsSlotOfLine (lists_of table.now) line }
@@ -194,15 +227,19 @@ fn first_in_column(table: &Table, line: u32, side: Side) -> Option<u32>
     ensures within { IfSome result (λ l. l < length table.now.slots.items) }
     ensures none { IfNone result (IsNoneInColumn (lists_of table.now) line side) }
 {
+    let mut found = None;
     for l in table.matrix.column(line) {
-        if has_reduced(table, *l, line, side) {
-            return Some(*l);
+        if is_before(table, *l, found) && has_reduced(table, *l, line, side) {
+            if is_level(*l) {
+                return Some(*l);
+            }
+            found = Some(*l);
         }
     }
-    None
+    found
 }
 
-// The first slot of a level at which the mark has a reduced cost.
+// The slot of the strongest level at which the mark has a reduced cost.
 fn first_slot(table: &Table, line: u32, side: Side) -> Option<u32>
     requires kept { IsKept (lists_of table.now) }
     requires line { IsSlotOfLine (lists_of table.now) line }
@@ -214,7 +251,7 @@ fn first_slot(table: &Table, line: u32, side: Side) -> Option<u32>
     let first = first_in_column(table, line, side);
     if has_reduced(table, home, line, side) {
         match first {
-            Some(l) if l < home => Some(l),
+            Some(l) if is_lower(table, l, home) => Some(l),
             _ => Some(home),
         }
     } else {
@@ -245,7 +282,7 @@ pub fn is_stronger(table: &Table, a: Level, b: Level) -> bool
     ensures no { result ≡ false → (j k : ℕ) → IsLevelAt (problem_of (lists_of table.now)) a j
         → IsLevelAt (problem_of (lists_of table.now)) b k → k ≤ j }
 {
-    level_slot(table, a) < level_slot(table, b)
+    rank_at(table, level_slot(table, a)) < rank_at(table, level_slot(table, b))
 }
 
 /// An exchange by slots: a line enters with a side, and a line leaves.

@@ -23,6 +23,7 @@ ghost use Rattle.scenes.specs.Kept.{no_layout};
 use crate::limits::FIRST_BUDGET;
 use crate::scene::frames::{frame_of, place_of};
 use crate::scene::past::{Past, Setting};
+use crate::scene::values::values_of;
 use cert_core::Best;
 use constraint_compile::Suggestion;
 use diagnosis::{Diagnosis, Stopped, diagnose};
@@ -33,7 +34,7 @@ use held_items::{
 };
 use layout_solver::Engine;
 use name_tables::Metrics;
-use problem_core::Row;
+use problem_core::{Row, Values};
 use script_text::{AttrWord, Direction};
 use std::alloc::Global;
 use std::collections::VecDeque;
@@ -132,7 +133,7 @@ impl Scene {
     ghost use Rattle.held_items.specs.Items.{has_size, intrinsic_of, line_count, suggestion_of};
     ghost use Rattle.held_items.specs.Leaving.{is_in_group};
     ghost use Rattle.held_items.specs.Moving.{IsFarSize};
-    ghost use Rattle.scenes.specs.Scene.{IsFirstCorner, first_history};
+    ghost use Rattle.scenes.specs.Scene.{IsFirstCorner, first_history, values_by_number};
     ghost use Rattle.std.specs.VecDeque.{deque_capacity};
     ghost use Rattle.held_items.specs.declared.limits.TheConstants.{EARLIER};
 
@@ -249,6 +250,15 @@ impl Scene {
         ensures values { result.now.values ≡ self.now.scene.values }
     {
         &self.engine
+    }
+
+    /// The values of all attributes, by number.
+    pub fn values(&self) -> Result<Values, OutOfMemory>
+        ensures { IfOk result (λ values. values ≡ values_by_number self.now.scene) }
+    {
+        self.engine.show_layout(); // for the proof: what an engine keeps
+        let _count = self.tree.len(); // for the proof: what a tree keeps
+        values_of(self.alloc, &self.tree, &self.engine)
     }
 
     /// Left, top, width and height of the view at a place, counted from 0 in order of creation. There is none

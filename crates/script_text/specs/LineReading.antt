@@ -336,6 +336,7 @@ arguments_at len key.Certify s = bare_at mean.Certify s
 arguments_at len key.Direction s = direction_at s
 arguments_at len key.Size s = size_at s
 arguments_at len key.Unsize s = named_at mean.Unsize s
+arguments_at len key.Keep s = named_at mean.Keep s
 
 -- the text behind the first word and the spaces that follow it
 unfoldable pub apart_at : List ℕ → Result (List ℕ) ℕ

@@ -38,10 +38,11 @@ use Rattle.corner_table.specs.declared.table.TheConstants.{LEVELS}
 use Rattle.corner.specs.Removals.Dropping.{dropped_attr, no_slot}
 use Rattle.corner_table.specs.Kept.{AreOutside, AreSlots, AreStored, HasStayRoom, IsAttrRow, IsAttrSlot, IsEquationAt, IsKept, IsLevelKept, IsLineRow, IsLineSlot, IsOwned, IsSlot, home_of}
 use Rattle.corner_writings.specs.Rows.{row_number}
-use Rattle.corner_table.specs.Tables.{Lists, attr_slot, entry, is_side, line_slot, marks_at, number, priority_at, problem_of, row_at, slot_at, standing_at, stands_in}
+use Rattle.corner_table.specs.Tables.{Lists, attr_slot, entry, is_side, line_slot, marks_at, number, priority_at, problem_of, row_at, slot_at, standing_at, stands_in, stay_rank}
 use Rattle.corner.specs.Views.{IsNamed}
 use Rattle.corner_exchange.proofs.Basics.SmallFacts.{own_name, own_stay}
 use Rattle.corner_writings.proofs.Basics.OwnerFacts.{stay_named}
+use Rattle.problem_core.proofs.RowNames.{stay-same}
 use Rattle.corner.proofs.Attributes.DroppedAttrLevels.{attr_left_cost, attr_left_level, attr_left_unit, attr_level_none, stays_part}
 use Rattle.corner_table.proofs.Readings.MarkFacts.{stands_inside}
 use Rattle.corner_exchange.proofs.Pivots.PairFacts.{named_mark}
@@ -340,11 +341,17 @@ said-row t attr l m off name weight scale rel home s =
     home-there l (Held id) = refl
     home-there l (StayOf a) = refl
 
+-- the levels of the stays that are left have the ranks that they had
+rank-left : (t : Lists) (attr b : ℕ) → IsAttrDrop t attr → HasStay t.stays b → b ≢ attr → stay_rank (dropped_attr t attr) b ≡ stay_rank t b
+rank-left t attr b d has ne =
+    ap (λ (x : Slot). x.rank) (attr_slot_same t attr (line_slot t (StayOf b)) (line-apart t attr (StayOf b) d (λ e. ne (stay-same b attr e)) (stay_named (problem_of t) b has)))
+
 attr-slots : (t : Lists) (attr : ℕ) → IsAttrDrop t attr → AreSlots (dropped_attr t attr)
 attr-slots t attr d =
     let s = d.kept.slots in
     let n = count t attr in
     let w : ℕ = attr_slot t attr in
+    let left = all-stays (λ (x : Stay). HasStay t.stays x.attr × ((LEVELS ≤ stay_rank t x.attr) × (stay_rank t x.attr < length t.slots))) attr t.stays (λ j y within. (own_stay t.stays j y within, s.stay_ranks j y within)) in
     record {
       standings = length-set (slice_set t.standings w no_standing) (w + 1) no_standing ∙ length-set t.standings w no_standing ∙ s.standings ∙ sym n;
       matrix = length-set (slice_set t.matrix w []) (w + 1) [] ∙ length-set t.matrix w [] ∙ s.matrix ∙ sym n;
@@ -359,7 +366,18 @@ attr-slots t attr d =
       owners = λ c is. owned c (where-is t attr c d) is;
       level_owners = λ c lt. ap (λ (x : Slot). x.owner) (attr_slot_same t attr c (level-apart t attr c d lt)) ∙ s.level_owners c lt;
       level_homes = λ c lt. ap (λ (x : Slot). x.home) (attr_slot_same t attr c (level-apart t attr c d lt)) ∙ s.level_homes c lt;
-      stays_rise = AllPairs-filter (λ (x y : Stay). attr_slot t x.attr < attr_slot t y.attr) (other_stay attr) t.stays s.stays_rise;
+      level_ranks = λ c lt. ap (λ (x : Slot). x.rank) (attr_slot_same t attr c (level-apart t attr c d lt)) ∙ s.level_ranks c lt;
+      stay_ranks = λ i x lt.
+          let is = left i x lt in
+          let one = rank-left t attr (slice_index_or (filter (other_stay attr) t.stays) i x).attr d is.0.0 is.1 in
+          (omega (arith, one, is.0.1.0), omega (arith, one, n, is.0.1.1));
+      stays_rise = λ i k x lt within.
+          let a = left i x (omega (arith, lt, within)) in
+          let b = left k x within in
+          let one = rank-left t attr (slice_index_or (filter (other_stay attr) t.stays) i x).attr d a.0.0 a.1 in
+          let two = rank-left t attr (slice_index_or (filter (other_stay attr) t.stays) k x).attr d b.0.0 b.1 in
+          let less = AllPairs-filter (λ (x y : Stay). stay_rank t x.attr < stay_rank t y.attr) (other_stay attr) t.stays s.stays_rise i k x lt within in
+          omega (arith, one, two, less);
     }
   where
     attr-in : RowName → ℕ

@@ -41,10 +41,11 @@ use Rattle.corner_exchange.specs.Swaps.Exchanges.{IsOutsideSlot}
 use Rattle.corner_writings.specs.Rows.{row_number}
 use Rattle.corner_table.specs.Kept.{AreOutside, AreSlots, AreStored, HasStayRoom, IsAttrRow, IsAttrSlot, IsEquationAt, IsKept, IsLevelKept, IsLineRow, IsLineSlot, IsOwned, IsSlot, home_of, row_count}
 use Rattle.corner.specs.Removals.Leaving.{IsLeaver, IsLevelLeft, marks_left, problem_left}
-use Rattle.corner_table.specs.Tables.{Lists, attr_slot, entry, is_side, line_slot, marks_at, number, priority_at, problem_of, row_at, slot_at, standing_at, stands_in}
+use Rattle.corner_table.specs.Tables.{Lists, attr_slot, entry, is_side, line_slot, marks_at, number, priority_at, problem_of, row_at, slot_at, standing_at, stands_in, stay_rank}
 use Rattle.corner.specs.Views.{IsNamed}
 use Rattle.corner_exchange.proofs.Basics.SmallFacts.{own_name, own_stay}
 use Rattle.corner_writings.proofs.Basics.OwnerFacts.{stay_named}
+use Rattle.problem_core.proofs.RowNames.{held-not-stay}
 use Rattle.corner.proofs.Removals.DroppedLevels.{CountsNothing, other_cost, other_row_is, other_unit}
 use Rattle.corner.proofs.Removals.LeftLists.{all_left, left_whole_problem, outside_back}
 use Rattle.corner_table.proofs.Readings.MarkFacts.{stands_inside}
@@ -271,6 +272,11 @@ attr-slot-kept t leaver left attr d has s = record {
   owner = ap (λ (x : Slot). x.owner) (drop_slot_same t leaver left (attr_slot t attr) (attr-off t leaver attr d.going has)) ∙ s.owner;
 }
 
+-- the stays' levels have the ranks that they had
+stay-rank-kept : (t : Lists) (leaver : Leaver) (left : Left) (attr : ℕ) → IsDrop t leaver left → HasStay t.stays attr → stay_rank (dropped t leaver left) attr ≡ stay_rank t attr
+stay-rank-kept t leaver left attr d has =
+    ap (λ (x : Slot). x.rank) (drop_slot_same t leaver left (line_slot t (StayOf attr)) (line-off t leaver (StayOf attr) d.going (stay_named (problem_of t) attr has) (λ e. held-not-stay leaver.id attr (sym e))))
+
 line-slot-kept : (t : Lists) (leaver : Leaver) (left : Left) (l : Line) → IsDrop t leaver left → IsNamed (problem_of t) l.name → l.name ≢ Held leaver.id → IsLineSlot t l → IsLineSlot (dropped t leaver left) l
 line-slot-kept t leaver left l d named ne s =
     let same : slot_at (dropped t leaver left) (line_slot t l.name) ≡ slot_at t (line_slot t l.name) = drop_slot_same t leaver left (line_slot t l.name) (line-off t leaver l.name d.going named ne) in
@@ -334,7 +340,16 @@ drop-slots t leaver left d =
       ];
       level_owners = λ w lt. ap (λ (x : Slot). x.owner) (drop_slot_same t leaver left w (λ e. high leaver.line w d.going.slot.0 lt (sym e))) ∙ s.level_owners w lt;
       level_homes = λ w lt. ap (λ (x : Slot). x.home) (drop_slot_same t leaver left w (λ e. high leaver.line w d.going.slot.0 lt (sym e))) ∙ s.level_homes w lt;
-      stays_rise = s.stays_rise;
+      level_ranks = λ w lt. ap (λ (x : Slot). x.rank) (drop_slot_same t leaver left w (λ e. high leaver.line w d.going.slot.0 lt (sym e))) ∙ s.level_ranks w lt;
+      stay_ranks = λ i x lt.
+          let one = stay-rank-kept t leaver left (slice_index_or t.stays i x).attr d (own_stay t.stays i x lt) in
+          let is = s.stay_ranks i x lt in
+          (omega (arith, one, is.0), omega (arith, one, n, is.1));
+      stays_rise = λ i k x lt within.
+          let one = stay-rank-kept t leaver left (slice_index_or t.stays i x).attr d (own_stay t.stays i x (omega (arith, lt, within))) in
+          let two = stay-rank-kept t leaver left (slice_index_or t.stays k x).attr d (own_stay t.stays k x within) in
+          let less = s.stays_rise i k x lt within in
+          omega (arith, one, two, less);
     }
 
 drop-stored : (t : Lists) (leaver : Leaver) (left : Left) → IsDrop t leaver left → AreStored (dropped t leaver left)

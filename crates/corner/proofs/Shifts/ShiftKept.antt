@@ -57,6 +57,8 @@ shift_slots t id to standings slots count = record {
   owners = λ w is. owned-after t id to standings w (slot_at t w).owner (slots.owners w is);
   level_owners = slots.level_owners;
   level_homes = slots.level_homes;
+  level_ranks = slots.level_ranks;
+  stay_ranks = slots.stay_ranks;
   stays_rise = slots.stays_rise;
 }
   where

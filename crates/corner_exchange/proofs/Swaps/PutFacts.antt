@@ -33,6 +33,8 @@ standing_slots t w standing h = record {
   owners = h.owners;
   level_owners = h.level_owners;
   level_homes = h.level_homes;
+  level_ranks = h.level_ranks;
+  stay_ranks = h.stay_ranks;
   stays_rise = h.stays_rise;
 }
 
@@ -55,6 +57,8 @@ row_slots t w row h = record {
   owners = h.owners;
   level_owners = h.level_owners;
   level_homes = h.level_homes;
+  level_ranks = h.level_ranks;
+  stay_ranks = h.stay_ranks;
   stays_rise = h.stays_rise;
 }
 

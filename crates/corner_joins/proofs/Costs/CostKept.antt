@@ -85,6 +85,8 @@ cost-slots t l row value unit h = record {
   owners = h.owners;
   level_owners = h.level_owners;
   level_homes = h.level_homes;
+  level_ranks = h.level_ranks;
+  stay_ranks = h.stay_ranks;
   stays_rise = h.stays_rise;
 }
 

@@ -7,7 +7,7 @@ use Rattle.frac_core.specs.Fraction.{Fraction}
 use Rattle.problem_core.specs.declared.parts.Mark.{Mark}
 use Rattle.problem_core.specs.declared.parts.Stay.{Stay}
 use Rattle.problem_core.specs.Layout.{Assignment, HasStay, Problem, Row, Satisfies, error, line_of_row}
-use Rattle.problem_core.specs.Kept.{AreRising, IsWhole}
+use Rattle.problem_core.specs.Kept.{IsWhole}
 use Rattle.problem_core.specs.Corners.{IsCorner, NoNegativeValue, Point, StandsAt, attr_column}
 use Rattle.corner.specs.Views.{CornerView, HasValueAt, IsKeptCorner, Scene}
 use Rattle.corner.specs.Changes.{HasStood, scene_of}
@@ -26,7 +26,6 @@ use Rattle.layout_solver.proofs.Starts.Moved.{IsAtTarget, moved_stands}
 use Rattle.layout_solver.proofs.Starts.MovedProblems.{its_values, moved_up, one_problem}
 use Rattle.layout_solver.proofs.Solved.{solved_end, these_values}
 use Rattle.layout_solver.proofs.Values.{numbers_here}
-use Rattle.frac_core.proofs.Lists.{pairs-unmapped as mapped-pairs, pairs-map as pairs-mapped}
 
 -- ---- the stays have moved
 
@@ -87,20 +86,6 @@ module _ (from mid : CornerView) (corner : IsCorner from.problem from.marks) (ha
       subst (λ (ms : List Mark). IsRemoveStop p ms l budget stop) marks
       (subst (λ (q : Problem). IsRemoveStop q mid.marks l budget stop) (one-stood p m) h)
 
--- ---- the values that are left rise
-
-attrs-pairs : (attrs : List ℕ) (p : Problem) → AllPairs (λ (s t : Stay). s.attr < t.attr) p.stays → AllPairs (λ (s t : Stay). s.attr < t.attr) (without_attrs attrs p).stays
-attrs-pairs [] p h = h
-attrs-pairs (a ∷ attrs) p h = attrs-pairs attrs (without_attr a p) (AllPairs-filter (λ (s t : Stay). s.attr < t.attr) (λ s. cond (nat_eq s.attr a) false true) p.stays h)
-
-left-rising : (l : Leaving) (old : Layout) (new : List (ℕ × Fraction)) → AreRising old.values → map (λ v. v.0) new ≡ attrs_of (with_removed old l) → AreRising new
-left-rising l old new rising is =
-    let stays : AllPairs (λ (s t : Stay). s.attr < t.attr) (with_removed old l).stays =
-    attrs-pairs l.attrs (without_rows l.rows (stood old))
-    (subst (AllPairs (λ (s t : Stay). s.attr < t.attr)) (sym (stays_same l.rows (stood old))) (pairs-mapped (λ (v : ℕ × Fraction). record { attr = v.0; target = v.1 }) (λ (s t : Stay). s.attr < t.attr) old.values rising)) in
-    mapped-pairs (λ (w : ℕ × Fraction). w.0) (λ (a b : ℕ). a < b) new
-    (subst (AllPairs (λ (a b : ℕ). a < b)) (sym is) (pairs-mapped (λ (s : Stay). s.attr) (λ (a b : ℕ). a < b) (with_removed old l).stays stays))
-
 -- ---- after the mark
 
 module _ (c mid : CornerView) (v : List (ℕ × Fraction)) (past : HaveValues c.before) (l : Layout) (m : IsMarked c mid v past l) (what : Leaving) where
@@ -130,5 +115,4 @@ module _ (c mid : CornerView) (v : List (ℕ × Fraction)) (past : HaveValues c.
   removed_solved end before w rest moved best listed kept h =
       let values = these_values end kept.corner w h in
       solved_end end w rest kept best values
-      (left-rising what l w (subst (λ (k : Layout). AreRising k.values) m.view m.solved.kept.rising) (values.attributes ∙ ap attrs_of (removed_is end.problem moved)))
       (changed_kept c mid v past l m end before rest) listed
