@@ -64,6 +64,7 @@ changes-answered old (mean.Size name width height hug resist) reply new is room 
 changes-answered old (mean.Unsize name) reply new is room h = gone old (mean.Unsize name) reply new room (resolved old (LeavesFree old) reply new (mean.Unsize name) Keeps is h)
 changes-answered old mean.Nothing reply new is room h = absurd is
 changes-answered old mean.Undo reply new is room h = absurd is
+changes-answered old (mean.Sweep from to) reply new is room h = absurd is
 changes-answered old (mean.Budget exchanges) reply new is room h = absurd is
 changes-answered old mean.Frames reply new is room h = absurd is
 changes-answered old mean.Rows reply new is room h = absurd is
@@ -95,4 +96,5 @@ others-accepted old (mean.Release name attr) reply new need h = absurd need
 others-accepted old (mean.Turn to) reply new need h = absurd need
 others-accepted old (mean.Size name width height hug resist) reply new need h = absurd need
 others-accepted old (mean.Unsize name) reply new need h = absurd need
+others-accepted old (mean.Sweep from to) reply new need h = absurd need
 others-accepted old mean.Diagnose reply new need h = absurd need

@@ -146,6 +146,7 @@ module _ (old : State) (E : Scene → Reply → State → Type 0) (r : Reply) (s
   resolved (mean.Unsize name) Other is h = res-unsize name h
   resolved mean.Nothing Other is h = absurd is
   resolved mean.Undo Other is h = absurd is
+  resolved (mean.Sweep from to) Other is h = absurd is
   resolved (mean.Budget exchanges) Other is h = absurd is
   resolved mean.Frames Other is h = absurd is
   resolved mean.Rows Other is h = absurd is

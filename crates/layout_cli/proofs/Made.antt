@@ -4,7 +4,7 @@ use Rattle.std.specs.Prelude.{cond, IfOk, IfErr, OnErr}
 use Rattle.std.specs.declared.result.Result.{Result}
 use Rattle.std.specs.declared.result.Result.TheVariants.{Ok, Err}
 use Rattle.session_undo.specs.State.{State}
-use Rattle.session_undo.specs.Replies.{Reply, MayRefuse, accepted, is_accepted, place_of, Outside, Unknown, Taken, Limit, Kind, Conflict, NoEarlier, Overflow, Spent, NoTarget}
+use Rattle.session_undo.specs.Replies.{Reply, MayRefuse, accepted, is_accepted, place_of, Outside, Unknown, Taken, Limit, Kind, Conflict, NoEarlier, Overflow, Spent, NoTarget, SweepOverflow}
 use Rattle.conflict_core.specs.declared.found.Found.TheVariants as found
 use Rattle.session_undo.specs.declared.reply.Refusal.{Refusal}
 use Rattle.session_undo.specs.declared.reply.Refusal.TheVariants as refusal
@@ -26,6 +26,7 @@ accepted_count (good.Certificate levels) = refl
 accepted_count (good.Diagnosed d) = refl
 accepted_count (good.Why found.Solvable) = refl
 accepted_count (good.Why (found.Core rows by without)) = refl
+accepted_count (good.Swept s) = refl
 
 -- a refusal that is told is one that F allows, and counts 1
 refused_count : (F : Reply → Type 0) (r : Refusal) → (r ≡ refusal.OutOfMemory → ⊥) → MayRefuse F r → (reply : Reply) × F reply × (1 ≡ refusal_count reply)
@@ -39,6 +40,7 @@ refused_count F refusal.NoEarlier told may = (NoEarlier, may, refl)
 refused_count F (refusal.Overflow place at) told may = (Overflow (place_of place) at.path at.quantity, may, refl)
 refused_count F (refusal.Spent place path) told may = (Spent (place_of place) path, may, refl)
 refused_count F (refusal.NoTarget attr up) told may = (NoTarget attr up, may, refl)
+refused_count F (refusal.SweepOverflow width path what) told may = (SweepOverflow width path what, may, refl)
 refused_count F refusal.OutOfMemory told may = absurd (told refl)
 
 refused_step : (old new : State) (line : List ℕ) (r : Refusal) → (r ≡ refusal.OutOfMemory → ⊥) → MayRefuse (λ reply. Step old line reply old) r → new ≡ old

@@ -4,6 +4,7 @@ use Rattle.std.specs.List.{AllByRecursion as Each}
 use Rattle.frac_core.specs.Fraction.{Fraction, IsLowest}
 use Rattle.problem_core.specs.declared.limits.TheConstants.{ROW_LIMIT}
 use Rattle.problem_core.specs.declared.parts.Mark.{Mark}
+use Rattle.problem_core.specs.declared.parts.Stay.{Stay}
 use Rattle.problem_core.specs.Layout.{Problem, Row}
 use Rattle.problem_core.specs.Kept.{IsNumber}
 use Rattle.cert_core.specs.Paths.{Path}
@@ -21,6 +22,10 @@ CanTake held (a ∷ attrs) =
 -- the attributes of the stays, in order
 abbrev pub attrs_of : Problem → List ℕ
 attrs_of p = map (λ s. s.attr) p.stays
+
+-- the problem of these rows and stays
+abbrev pub as_problem : List Row → List Stay → Problem
+as_problem rows stays = record { rows = rows; stays = stays }
 
 -- the problem has these rows, the corner's attributes at their values there, and more of them at 0
 pub record IsMoved (from : CornerView) (attrs : List ℕ) (rows : List Row) (p : Problem) : Type 0 where

@@ -63,8 +63,10 @@ mod laws;
 mod reading;
 mod removing;
 mod shifting;
+mod starting;
 mod trying;
 
 pub use engine::{Change, Engine};
 pub use laws::{removals_stop_plainly, some_cannot_leave, some_removals_stop};
 pub use removing::RemoveStop;
+pub use starting::started;

@@ -1,4 +1,5 @@
 pub mod Found
 pub mod Cores
+pub mod Swept
 pub mod Replies
 pub mod Printing

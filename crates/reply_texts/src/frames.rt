@@ -28,8 +28,8 @@ pub(crate) fn push_value(out: &mut Vec<u8>, value: Wide) -> Result<(), OutOfMemo
     Ok(())
 }
 
-// Appends the four values of a frame.
-fn push_values(out: &mut Vec<u8>, frame: &Frame) -> Result<(), OutOfMemory>
+/// Appends the four values of a frame.
+pub(crate) fn push_values(out: &mut Vec<u8>, frame: &Frame) -> Result<(), OutOfMemory>
     ensures { IfOk result (λ _. out.new.items ≡ out.old.items ++ (value_text frame.now.left
         ++ (value_text frame.now.top ++ (value_text frame.now.width ++ value_text frame.now.height)))) }
 {

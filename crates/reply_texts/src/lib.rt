@@ -26,6 +26,7 @@ mod numbers;
 mod printing;
 mod refusals;
 mod reply;
+mod swept;
 
 pub use frames::push_at;
 pub use numbers::push_line;

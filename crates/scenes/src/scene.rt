@@ -28,7 +28,7 @@ use constraint_compile::Suggestion;
 use diagnosis::{Diagnosis, Stopped, diagnose};
 use frac_core::{Frac, OutOfMemory};
 use held_items::{
-    EARLIER, FIRST_FREE_ROW, IntrinsicSize, Item, WindowSize, has_group, has_size, intrinsic_of,
+    EARLIER, FIRST_FREE_ROW, IntrinsicSize, Item, WindowSize, fits_after, has_group, has_size, intrinsic_of,
     is_near_size, line_count, size_of, structural_rows, suggestion_of, view_attributes,
 };
 use layout_solver::Engine;
@@ -38,6 +38,8 @@ use script_text::{AttrWord, Direction};
 use std::alloc::Global;
 use std::collections::VecDeque;
 use std::marker::Model;
+use sweep_param::sweep;
+use sweep_run::{Stretch, SweepStop};
 use version_list::VersionList;
 use view_tree::{Tree, VIEW_LIMIT, ViewId};
 
@@ -129,6 +131,9 @@ impl Scene {
     ghost use Rattle.diagnosis.specs.Diagnoses.{findings_of};
     ghost use Rattle.scenes.specs.Diagnosing.{AreFindingsOf, IsCertificateOf, IsProbedStop};
     ghost use Rattle.scenes.specs.Frames.{IsFrameAt, IsFrameOf};
+    ghost use Rattle.scenes.specs.Sweeping.{AreSweptOf, IsFarSweep, IsSweepStopOf};
+    ghost use Rattle.sweep_laws.specs.Fractions.{IsNoMore};
+    ghost use Rattle.sweep_run.specs.Told.{stretches_of};
     ghost use Rattle.held_items.specs.Items.{has_size, intrinsic_of, line_count, suggestion_of};
     ghost use Rattle.held_items.specs.Leaving.{is_in_group};
     ghost use Rattle.held_items.specs.Moving.{IsFarSize};
@@ -341,6 +346,37 @@ impl Scene {
     {
         self.engine.show_layout(); // for the proof: what an engine keeps
         self.engine.certificate()
+    }
+
+    /// Whether the window has a width, and what these widths are above that, or above each other, doesn't
+    /// fit.
+    pub fn is_far_sweep(&self, from: Frac, to: Frac) -> bool
+        ensures yes { result ≡ true → IsFarSweep self.now.scene.held from to }
+        ensures no { result ≡ false → IsFarSweep self.now.scene.held from to → ⊥ }
+    {
+        match size_of(self.items.as_slice()) {
+            Some(held) => {
+                let present = held.size.width;
+                !(fits_after(present, from) && fits_after(present, to) && fits_after(from, to))
+            }
+            None => false,
+        }
+    }
+
+    /// What is best for all widths of the window from the one to the other, where it has a size, with the
+    /// stays at the present values. The scene is as before.
+    pub fn sweep(&self, from: Frac, to: Frac, budget: u64) -> Result<Vec<Stretch>, SweepStop>
+        requires sized { has_size self.now.scene.held ≡ true }
+        requires order { IsNoMore from to }
+        requires near { IsFarSweep self.now.scene.held from to → ⊥ }
+        ensures swept { IfOk result (λ s. AreSweptOf self.now.scene from to (stretches_of s.items)) }
+        ensures stop { IfErr result (IsSweepStopOf self.now.scene from to budget) }
+    {
+        let Some(held) = size_of(self.items.as_slice()) else {
+            unreachable!();
+        };
+        let p = self.problem_here()?;
+        sweep(self.alloc, &p, held.first_row, from, to, budget)
     }
 
     /// Whether there is an earlier scene.

@@ -46,7 +46,8 @@ use Rattle.corner_table.proofs.Readings.MarkFacts.{inside_stands}
 use Rattle.corner_table.proofs.Readings.ReadFacts.{named_in, value_attr, value_inside}
 use Rattle.corner_table.proofs.Readings.SlotFacts.{any_is, named_stay}
 use Rattle.corner.proofs.Stays.StoodLevels.{cost_stood}
-use Rattle.corner.proofs.Stays.StoodLines.{AreSeenAlike, any_seen, each_seen, lines_alike, map_same, marks_seen, stay_line, sum_seen}
+use Rattle.corner_lines.specs.Shifts.{AreSeenAlike}
+use Rattle.corner.proofs.Stays.StoodLines.{any_seen, each_seen, lines_alike, map_same, marks_seen, stay_line, sum_seen}
 use Rattle.corner.proofs.Stays.StoodLists.{held_no_stay, level_no_stay, no_first_attr}
 use Rattle.frac_core.proofs.Numbers.{as-natural as above-zero}
 use Rattle.frac_core.proofs.Bools.{not-both as not_both}

@@ -232,6 +232,16 @@ impl Scene {
         self.constants_problem(&intrinsic_changes(again))
     }
 
+    /// The problem of the rows as they are, with the stays at the present values.
+    pub fn problem_here(&self) -> Result<Problem, OutOfMemory>
+        ensures { IfOk result (λ p. p ≡ record {
+          rows = self.now.scene.rows;
+          stays = stays_at self.now.scene.values;
+        }) }
+    {
+        self.constants_problem(&[])
+    }
+
     /// The problem in another direction: the rows are as they are.
     pub fn turned_problem(&self) -> Result<Problem, OutOfMemory>
         ensures { IfOk result (λ p. (to : Direction) → IsProblemOf (with_direction self.now.scene to) p) }

@@ -1,0 +1,2 @@
+pub mod OneConstant
+pub mod Covering
