@@ -17,7 +17,7 @@ TOP = os.path.join(os.path.dirname(os.path.abspath(__file__)), "..")
 PROGRAM = os.path.abspath((sys.argv[1:] or [f"{TOP}/crates/layout/out/layout"])[0])
 PAGES = ["README.md", "docs/GUIDE.md", "docs/LANGUAGE.md"]
 SCREENS = {"## 3. ": "Settings", "## 4. ": "Dialog"}
-WORDS = """layout view tree drop metric window vfl constrain remove suggest release direction size unsize undo budget
+WORDS = """layout view tree drop metric window vfl constrain remove suggest release direction size unsize keep undo budget
 frames rows diagnose certify why ?""".split()
 HOSTED = re.compile(r"[A-Za-z_]\w*: ")
 

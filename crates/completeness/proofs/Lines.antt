@@ -62,6 +62,7 @@ changes-answered old (mean.Turn to) reply new is room h = stood old (mean.Turn t
 changes-answered old (mean.Size name width height hug resist) reply new is room h =
     solved old (mean.Size name width height hug resist) reply new room (resolved old (Solves old) reply new (mean.Size name width height hug resist) Keeps is h)
 changes-answered old (mean.Unsize name) reply new is room h = gone old (mean.Unsize name) reply new room (resolved old (LeavesFree old) reply new (mean.Unsize name) Keeps is h)
+changes-answered old (mean.Keep name) reply new is room h = freed old (mean.Keep name) reply new room (resolved old (SolvesFree old) reply new (mean.Keep name) Keeps is h)
 changes-answered old mean.Nothing reply new is room h = absurd is
 changes-answered old mean.Undo reply new is room h = absurd is
 changes-answered old (mean.Budget exchanges) reply new is room h = absurd is
@@ -95,4 +96,5 @@ others-accepted old (mean.Release name attr) reply new need h = absurd need
 others-accepted old (mean.Turn to) reply new need h = absurd need
 others-accepted old (mean.Size name width height hug resist) reply new need h = absurd need
 others-accepted old (mean.Unsize name) reply new need h = absurd need
+others-accepted old (mean.Keep name) reply new need h = absurd need
 others-accepted old mean.Diagnose reply new need h = absurd need

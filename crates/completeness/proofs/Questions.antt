@@ -2,10 +2,8 @@
 use Rattle.std.proofs.Common.{◌≡◌, inl, inr}
 use Rattle.problem_core.specs.Layout.{Problem}
 use Rattle.conflict_core.specs.declared.found.CoreStop.TheVariants.{OutOfMemory, Spent, Unfit}
-use Rattle.conflict_core.proofs.CoreLaws.{cores_are_found}
-use Rattle.script_text.specs.Meaning.{Meaning}
+use Rattle.conflict_core.proofs.CoreStops.{cores_are_found}
 use Rattle.session_undo.specs.Explaining.{Explains}
-use Rattle.session_undo.specs.Machine.{Poses}
 use Rattle.session_undo.specs.Replies.{Reply}
 use Rattle.session_undo.specs.State.{State}
 use Rattle.completeness.specs.Laws.{IsExplained, QuestionsAreAnswered}

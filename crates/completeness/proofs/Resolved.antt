@@ -13,7 +13,7 @@ use Rattle.constraint_compile.specs.declared.suggestion.Suggestion.{Suggestion}
 use Rattle.held_items.specs.declared.item.intrinsic.IntrinsicSize.{IntrinsicSize}
 use Rattle.view_tree.specs.JsonTrees.{Branch, JsonTree}
 use Rattle.session_undo.specs.Adding.{NoEnd}
-use Rattle.session_undo.specs.Machine.{AddsBranch, AddsLine, AddsTree, AddsView, DropsView, PosesDraft, ReleasesOf, Sizes, SizesFor, Suggests, SuggestsFor, Tried, TriedBranch, TriedDrop, TriedMetric, TriedRelease, TriedRemove, TriedSize, TriedSuggest, TriedTree, TriedUnsize, TriedView, TriedWindow, UnlessFar, UnsizesOf, parent_name}
+use Rattle.session_undo.specs.Machine.{AddsBranch, AddsLine, AddsTree, AddsView, DropsView, KeepsOf, PosesDraft, ReleasesOf, Sizes, SizesFor, Suggests, SuggestsFor, Tried, TriedBranch, TriedDrop, TriedKeep, TriedMetric, TriedRelease, TriedRemove, TriedSize, TriedSuggest, TriedTree, TriedUnsize, TriedView, TriedWindow, UnlessFar, UnsizesOf, parent_name}
 use Rattle.scenes.specs.Steps.{IsProblemOf}
 use Rattle.session_undo.specs.Machine.{Poses}
 use Rattle.session_undo.specs.Replies.{Reply, Done}
@@ -121,6 +121,12 @@ module _ (old : State) (E : Scene → Reply → State → Type 0) (r : Reply) (s
   res-unsize : (name : List ℕ) → TriedUnsize old name E r s → Res (TriedUnsize old name NoEnd r s) (λ p. TriedUnsize old name (PosesDraft p) Done old)
   res-unsize name = past (unsizes name)
 
+  keeps : (name : List ℕ) → KeepsOf old name E r s → Res (KeepsOf old name NoEnd r s) (λ p. KeepsOf old name (PosesDraft p) Done old)
+  keeps name (view, found, e) = inr (_, e, λ p of. (view, found, of))
+
+  res-keep : (name : List ℕ) → TriedKeep old name E r s → Res (TriedKeep old name NoEnd r s) (λ p. TriedKeep old name (PosesDraft p) Done old)
+  res-keep name = past (keeps name)
+
   res-remove : (group : List ℕ) → TriedRemove old group E r s → Res (TriedRemove old group NoEnd r s) (λ p. TriedRemove old group (PosesDraft p) Done old)
   res-remove group = past (end _)
 
@@ -144,6 +150,7 @@ module _ (old : State) (E : Scene → Reply → State → Type 0) (r : Reply) (s
   resolved (mean.Turn to) Other is h = end (with_direction old.scene to) h
   resolved (mean.Size name width height hug resist) Other is h = res-size name width height hug resist h
   resolved (mean.Unsize name) Other is h = res-unsize name h
+  resolved (mean.Keep name) Other is h = res-keep name h
   resolved mean.Nothing Other is h = absurd is
   resolved mean.Undo Other is h = absurd is
   resolved (mean.Budget exchanges) Other is h = absurd is

@@ -42,6 +42,7 @@ IsChanging (mean.Release name attr) = Unit {0}
 IsChanging (mean.Turn to) = Unit {0}
 IsChanging (mean.Size name width height hug resist) = Unit {0}
 IsChanging (mean.Unsize name) = Unit {0}
+IsChanging (mean.Keep name) = Unit {0}
 IsChanging _ = ⊥
 
 -- the required rows have a solution, and the command is accepted
@@ -52,8 +53,8 @@ IsAccepted p reply = ((x : Assignment) × Satisfies p x) × (reply ≡ Done)
 abbrev pub IsDecided : Problem → Reply → Type 0
 IsDecided p reply = IsAccepted p reply ⊎ (IsInConflict p × ((by : List By) × (reply ≡ Conflict by)))
 
--- what a command comes to, where this is its problem: views that come, what leaves, and another direction are
--- in no conflict
+-- what a command comes to, where this is its problem: views that come, what leaves, another direction, and a
+-- view that is kept are in no conflict
 abbrev pub ComesTo : Meaning → Problem → Reply → Type 0
 ComesTo (mean.View name parent) = IsAccepted
 ComesTo (mean.Tree text start) = IsAccepted
@@ -62,6 +63,7 @@ ComesTo (mean.Remove group) = IsAccepted
 ComesTo (mean.Release name attr) = IsAccepted
 ComesTo (mean.Turn to) = IsAccepted
 ComesTo (mean.Unsize name) = IsAccepted
+ComesTo (mean.Keep name) = IsAccepted
 ComesTo _ = IsDecided
 
 -- a cause is against the command

@@ -34,7 +34,6 @@ use Rattle.layout_solver.specs.Instances.{below_bound}
 use Rattle.conflict_core.specs.Cores.{AreRequired, IsCore, trial, without}
 use Rattle.conflict_core.specs.Shown.{DoWithout, IsShownCore, IsSolution}
 use Rattle.conflict_core.specs.Trials.{IsStopOfTrial}
-use Rattle.conflict_core.specs.declared.found.CoreStop.TheVariants.{Spent}
 use Rattle.conflict_core.specs.Instances.{SomeAreCores, SomeAreShown, SomeTrialsStop, clash, once_and, points, widths, with_width}
 
 -- ---- the two rows

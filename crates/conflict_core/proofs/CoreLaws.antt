@@ -1,28 +1,20 @@
 -- The laws of cores.
-use Rattle.std.proofs.Common.{◌≡◌, ◌≢◌, ℕ, ◌+◌, ◌^◌, ◌≤◌, false, List, [], length, refl, subst, arith, Contains}
+use Rattle.std.proofs.Common.{◌≡◌, ◌≢◌, ℕ, List, refl, subst, Contains}
 use Rattle.std.specs.List.{AllByRecursion as Each}
-use Rattle.std.proofs.Math.Nat.{pow-le-pow_right}
 use Rattle.std.proofs.lemmas.List.Elements.{recursion_from_All, All-from_recursion}
 use Rattle.frac_core.specs.Fraction.{Fraction}
 use Rattle.frac_core.proofs.Lists.{each-onto_map}
 use Rattle.problem_core.specs.Layout.{IsInConflict, Problem}
 use Rattle.problem_core.specs.Kept.{IsWhole}
 use Rattle.problem_core.proofs.Forms.{each-impl}
-use Rattle.cert_core.specs.declared.stops.RunStop.{RunStop}
-use Rattle.cert_core.specs.declared.stops.RunStop.TheVariants as run
-use Rattle.corner.specs.Changes.{FromAdded}
-use Rattle.corner_laws.specs.Laws.{IsConflict}
-use Rattle.corner_laws.proofs.PathEnds.Complete.{stops_are_conflicts}
-use Rattle.conflict_core.specs.Cores.{AreRequired, trial, without}
+use Rattle.conflict_core.specs.Cores.{trial, without}
 use Rattle.conflict_core.specs.Shown.{DoWithout, IsFound}
-use Rattle.conflict_core.specs.Trials.{IsStopOfTrial}
-use Rattle.conflict_core.specs.Laws.{CoreIsConflict, CoresAreFound, FoundDecides, HasRoom, ProperPartsAreSolvable, ShownIsCore}
+use Rattle.conflict_core.specs.Laws.{CoreIsConflict, FoundDecides, ProperPartsAreSolvable, ShownIsCore}
 use Rattle.conflict_core.specs.declared.found.Found.{Found}
 use Rattle.conflict_core.specs.declared.found.Found.TheVariants.{Solvable, Core}
-use Rattle.conflict_core.specs.declared.found.CoreStop.TheVariants.{Unfit, Spent, OutOfMemory}
 use Rattle.conflict_core.proofs.Among.{IsPart, among_contains, contains_among, each-among, without-among}
 use Rattle.conflict_core.proofs.TrialRows.{part_satisfied, trial_satisfied}
-use Rattle.conflict_core.proofs.TrialWhole.{shown_conflict, trial_few, trial_whole}
+use Rattle.conflict_core.proofs.TrialWhole.{shown_conflict}
 
 pub core_is_conflict : CoreIsConflict
 core_is_conflict p ids core x sat = core.conflict x (trial_satisfied p ids x sat)
@@ -61,20 +53,3 @@ found-core p (Core rows by values) whole h other =
 
 pub found_decides : FoundDecides
 found_decides = record { solvable = found-solvable; core = found-core }
-
-enough : (p : Problem) (budget : ℕ) (ids : List ℕ) → HasRoom p budget → 3 ^ (length (trial p ids).rows + length (trial p ids).stays) ≤ budget
-enough p budget ids room =
-    let few = trial_few p ids in
-    let less : length (trial p ids).rows + length (trial p ids).stays ≤ length p.rows + length p.stays = (let a = few.0 in let b = few.1 in omega (arith, a, b)) in
-    let power : 3 ^ (length (trial p ids).rows + length (trial p ids).stays) ≤ 3 ^ (length p.rows + length p.stays) = pow-le-pow_right (omega arith) less in
-    let most = room.exchanges in
-    omega (arith, power, most)
-
-no-stop : (p : Problem) (budget : ℕ) (ids : List ℕ) (stop : RunStop) → IsWhole p → HasRoom p budget → AreRequired p ids → IsStopOfTrial p ids budget stop → IsConflict stop
-no-stop p budget ids stop whole room rows h =
-    stops_are_conflicts false (trial p ids) [] (FromAdded (trial p ids) [] (trial p ids).rows) budget stop (trial_whole p ids whole) (room.fits ids rows) (enough p budget ids room) h
-
-pub cores_are_found : CoresAreFound
-cores_are_found p budget (Unfit held at) whole room (rows, h) = absurd (no-stop p budget held.items (run.Unfit at) whole room rows h)
-cores_are_found p budget (Spent held path) whole room (rows, h) = absurd (no-stop p budget held.items (run.Spent path) whole room rows h)
-cores_are_found p budget OutOfMemory whole room h = refl

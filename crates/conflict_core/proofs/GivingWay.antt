@@ -1,30 +1,31 @@
 -- An engine with rows of which one gives way.
-use Rattle.std.proofs.Common.{◌≡◌, ◌≢◌, ◌∙◌, ℕ, zero, suc, ◌+◌, ◌-◌, ◌<◌, Bool, true, false, cond, not, nat_eq, ◌&&◌, List, [], ◌∷◌, ◌++◌, map, filter, length, take, get_or, pos, negsuc, refl, sym, ap, ap₂, subst, arith, inl, inr, All, AllPairs, Any, true≢false, eq-eqb}
+use Rattle.std.proofs.Common.{◌≡◌, ◌≢◌, ◌∙◌, ℕ, zero, suc, ◌+◌, ◌-◌, ◌<◌, Bool, true, false, cond, nat_eq, List, [], ◌∷◌, ◌++◌, map, filter, length, take, get_or, pos, negsuc, refl, sym, ap, ap₂, subst, arith, inl, inr, All, AllPairs, Any, IsPermutation, true≢false}
 use Rattle.std.specs.List.{AllByRecursion as Each}
 use Rattle.std.proofs.lemmas.Bool.{and_from, and_parts, cases_eq, cases_lt}
 use Rattle.std.proofs.lemmas.List.{get_or_default, map-append, take_more}
 use Rattle.std.proofs.lemmas.List.Elements.{All-from_recursion, All-map, All-weaker, recursion_from_All}
 use Rattle.frac_core.specs.Fraction.{Fraction, Fits, IsKept, IsLowest, IsRatio, sum_den, sum_num}
 use Rattle.problem_core.specs.declared.limits.TheConstants.{REQUIRED}
-use Rattle.problem_core.specs.Layout.{Assignment, Problem, Row, Satisfies}
-use Rattle.problem_core.specs.Kept.{AreRising, IsWhole}
+use Rattle.problem_core.specs.Layout.{HasStay, Problem, Row}
+use Rattle.problem_core.specs.Kept.{IsWhole}
 use Rattle.corner.specs.Shifts.Shifting.{IsNear}
 use Rattle.corner_lines.specs.Shifts.{IsShift, has_constant, with_constant}
 use Rattle.corner.proofs.Shifts.ShiftLines.{shift_whole}
-use Rattle.certificates.proofs.SameValues.{of_stays}
 use Rattle.layout_solver.proofs.BestValues.{attrs-at}
 use Rattle.corner_lines.proofs.ProblemChanges.Shifted.{changed, same-id, shift-off, shift-on}
 use Rattle.layout_solver.specs.declared.engine.Change.{Change}
-use Rattle.layout_solver.specs.Layouts.{AreBest, Layout, Solution, solution_of, with_added, zeros}
+use Rattle.layout_solver.specs.Layouts.{AreBest, Layout, Solution, solution_of, with_added}
 use Rattle.layout_solver.specs.Shifts.{CanShift, shifted, with_shifts}
 use Rattle.layout_solver.specs.Starts.{attrs_of}
 use Rattle.conflict_core.specs.Cores.{is_among, is_tried, trial, without}
+use Rattle.conflict_core.specs.Searches.{AreNumbersOf}
 use Rattle.conflict_core.specs.Shown.{IsSolution}
-use Rattle.conflict_core.specs.Trials.{HasRisingStays, nothing}
+use Rattle.conflict_core.specs.Trials.{nothing}
 use Rattle.conflict_core.specs.Yielding.{GivesWay, IsOwn, MayGet}
 use Rattle.conflict_core.proofs.Among.{among-without}
+use Rattle.conflict_core.proofs.Outcomes.{all_held, read, read_solution, trial_numbers}
 use Rattle.conflict_core.proofs.TrialRows.{IsMet}
-use Rattle.conflict_core.proofs.TrialWhole.{trial_attrs, trial_whole, zeros_rise}
+use Rattle.conflict_core.proofs.TrialWhole.{trial_attrs, trial_whole}
 
 -- ---- a row's own constant
 
@@ -97,7 +98,7 @@ module _ (p : Problem) (n m : ℕ) (f from : Fraction) (apart : n ≢ m) where
     difference = is.difference;
   }
 
-near-after : (p : Problem) (n m : ℕ) (f to : Fraction) → n ≢ m → IsNear p m to → IsNear (with_constant n f p) m to
+pub near-after : (p : Problem) (n m : ℕ) (f to : Fraction) → n ≢ m → IsNear p m to → IsNear (with_constant n f p) m to
 near-after p n m f to apart (from, more, is, kept) = (from, more, shift-after p n m f from apart to more is, kept)
 
 -- one after the other
@@ -153,18 +154,20 @@ others-too P ids n f [] h = tt
 others-too P ids n f (r ∷ rows) h =
     other-step P n f r (is_tried ids r) (is_tried (without n ids) r) (filter (is_tried ids) rows) (filter (is_tried (without n ids)) rows) (other-tried ids n r) (others-too P ids n f rows) h
 
-pub gives_solution : (p : Problem) (ids : List ℕ) (to : Change) (l : Layout) → GivesWay p ids to l → AreBest l.problem l.values → All (λ v. IsKept v.1) l.values → AreRising l.values → IsSolution (trial p (without to.row ids)) l.values
-gives_solution p ids to l way best kept rising =
-    let (x, is, gives) = best.best in record {
-      all = record { attributes = of_stays (trial p (without to.row ids)) l.values (best.attributes ∙ way.attrs ∙ sym (trial_attrs p (without to.row ids))); rising = rising; kept = kept };
-      satisfies = (
-        x,
-        All-from_recursion (IsMet x) (filter (is_tried (without to.row ids)) p.rows)
-            (others-too (IsMet x) ids to.row to.constant p.rows
-            (recursion_from_All (IsMet x) (shifted (to ∷ []) (trial p ids).rows) (subst (All (IsMet x)) way.rows is.0))),
-        gives,
-      );
-    }
+module _ (p : Problem) (ids : List ℕ) (to : Change) (l : Layout) (way : GivesWay p ids to l) (numbers : List ℕ) (are : AreNumbersOf p numbers) where
+  -- each number is that of an attribute which the engine has
+  pub way_held : All (HasStay l.problem.stays) numbers
+  way_held = all_held l.problem numbers (subst (λ (ns : List ℕ). IsPermutation ns numbers) (sym way.attrs) are.same)
+
+  pub gives_solution : AreBest l.problem l.values → All (λ v. IsKept v.1) l.values → IsSolution (trial p (without to.row ids)) (map (read l.values) numbers)
+  gives_solution best kept =
+      let (x, is, gives) = best.best in
+      read_solution (trial p (without to.row ids)) numbers (trial_numbers p (without to.row ids) numbers are.same) l.values
+      (best.attributes ∙ way.attrs ∙ sym (trial_attrs p (without to.row ids))) kept are.rising x
+      (All-from_recursion (IsMet x) (filter (is_tried (without to.row ids)) p.rows)
+      (others-too (IsMet x) ids to.row to.constant p.rows
+      (recursion_from_All (IsMet x) (shifted (to ∷ []) (trial p ids).rows) (subst (All (IsMet x)) way.rows is.0))))
+      gives
 
 -- ---- the engine is begun
 
@@ -176,11 +179,6 @@ module _ (p : Problem) (ids : List ℕ) (to : Change) (l : Layout) (attrs : List
 
   pub begun_whole : IsWhole p → IsKept to.constant → IsWhole (with_added l attrs rows)
   begun_whole whole kept = subst IsWhole (sym begun-is) (shift_whole (trial p ids) to.row to.constant kept (trial_whole p ids whole))
-
-  pub begun_rise : HasRisingStays p → AreRising (l.values ++ zeros attrs)
-  begun_rise rising =
-      subst (λ (k : Layout). AreRising (k.values ++ zeros attrs)) (sym none)
-      (subst (λ (ns : List ℕ). AreRising (zeros ns)) (sym at) (zeros_rise p rising))
 
   pub begun_way : (new : Layout) → new.problem ≡ with_added l attrs rows → new.earlier ≡ solution_of l ∷ l.earlier → GivesWay p ids to new
   begun_way new is before = record {

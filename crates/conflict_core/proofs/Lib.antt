@@ -6,8 +6,9 @@ pub mod TrialAdds
 pub mod OwnRows
 pub mod Naming
 pub mod Narrowing
-pub mod EngineValues
 pub mod GivingWay
+pub mod Joining
 pub mod Outcomes
 pub mod CoreLaws
+pub mod CoreStops
 pub mod CoreExamples

@@ -37,7 +37,7 @@ any-unfiltered P f (r ∷ rows) h =
           (any-unfiltered P f rows (subst (λ (b : Bool). Any P (cond b (r ∷ filter f rows) (filter f rows))) fails h))
     ]
 
-any-filtered : (P : Row → Type 0) (f : Row → Bool) (rows : List Row) → Any (λ r. (f r ≡ true) × P r) rows → Any P (filter f rows)
+pub any-filtered : (P : Row → Type 0) (f : Row → Bool) (rows : List Row) → Any (λ r. (f r ≡ true) × P r) rows → Any P (filter f rows)
 any-filtered P f [] (k, x, within, is, h) = absurd (omega (arith, within))
 any-filtered P f (r ∷ rows) h =
     elim (any-cases (λ r. (f r ≡ true) × P r) r rows h) [

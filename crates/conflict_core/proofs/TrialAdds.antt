@@ -1,13 +1,13 @@
 -- What an addition to an engine that holds nothing is: a trial.
-use Rattle.std.proofs.Common.{◌≡◌, ◌∙◌, ℕ, ◌<◌, List, ◌++◌, filter, length, sym, ap, ap₂, subst, arith}
+use Rattle.std.proofs.Common.{◌≡◌, ◌∙◌, ℕ, ◌<◌, List, filter, length, sym, ap, ap₂, subst, arith}
 use Rattle.problem_core.specs.Layout.{Problem, Row}
-use Rattle.problem_core.specs.Kept.{AreRising, IsWhole}
+use Rattle.problem_core.specs.Kept.{IsWhole}
 use Rattle.version_list.specs.declared.TheConstants.{VERSION_LIMIT}
-use Rattle.layout_solver.specs.Layouts.{Layout, with_added, zeros}
+use Rattle.layout_solver.specs.Layouts.{Layout, with_added}
 use Rattle.layout_solver.specs.Starts.{attrs_of}
 use Rattle.conflict_core.specs.Cores.{is_tried, trial}
-use Rattle.conflict_core.specs.Trials.{HasRisingStays, nothing}
-use Rattle.conflict_core.proofs.TrialWhole.{trial_whole, zeros_rise}
+use Rattle.conflict_core.specs.Trials.{nothing}
+use Rattle.conflict_core.proofs.TrialWhole.{trial_whole}
 
 module _ (p : Problem) (ids : List ℕ) (l : Layout) (attrs : List ℕ) (rows : List Row) (none : l ≡ nothing) (at : attrs ≡ attrs_of p) (are : rows ≡ filter (is_tried ids) p.rows) where
   pub added_is : with_added l attrs rows ≡ trial p ids
@@ -17,11 +17,6 @@ module _ (p : Problem) (ids : List ℕ) (l : Layout) (attrs : List ℕ) (rows : 
 
   pub added_whole : IsWhole p → IsWhole (with_added l attrs rows)
   added_whole whole = subst IsWhole (sym added_is) (trial_whole p ids whole)
-
-  pub added_rise : HasRisingStays p → AreRising (l.values ++ zeros attrs)
-  added_rise rising =
-      subst (λ (k : Layout). AreRising (k.values ++ zeros attrs)) (sym none)
-      (subst (λ (ns : List ℕ). AreRising (zeros ns)) (sym at) (zeros_rise p rising))
 
 pub has_room : (l : Layout) → l ≡ nothing → length l.earlier < VERSION_LIMIT
 has_room l none = subst (λ (k : Layout). length k.earlier < VERSION_LIMIT) (sym none) (omega arith)

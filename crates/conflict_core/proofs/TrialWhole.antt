@@ -10,7 +10,7 @@ use Rattle.frac_core.proofs.Lists.{each-onto_map, pairs-map, pairs-unmapped}
 use Rattle.problem_core.specs.declared.parts.Stay.{Stay}
 use Rattle.problem_core.specs.declared.parts.Term.{Term}
 use Rattle.problem_core.specs.Layout.{HasStay, IsCovered, IsInConflict, Problem, Row}
-use Rattle.problem_core.specs.Kept.{AreRising, IsNumber, IsRow, IsStay, IsWhole}
+use Rattle.problem_core.specs.Kept.{IsNumber, IsRow, IsStay, IsWhole}
 use Rattle.problem_core.proofs.Forms.{each-impl}
 use Rattle.problem_core.proofs.Refutations.{refutation-IsInConflict}
 use Rattle.problem_core.proofs.Sides.{zero-kept}
@@ -23,7 +23,6 @@ use Rattle.layout_solver.specs.Layouts.{stays_at, zeros}
 use Rattle.layout_solver.specs.Starts.{attrs_of}
 use Rattle.layout_solver.proofs.BestValues.{attrs-at, same-stays}
 use Rattle.conflict_core.specs.Cores.{is_tried, trial}
-use Rattle.conflict_core.specs.Trials.{HasRisingStays}
 
 abbrev attr_of : Stay → ℕ
 attr_of s = s.attr
@@ -67,12 +66,6 @@ trial_whole p ids whole = record {
   row_count = (let less = few p ids in let most = whole.row_count in omega (arith, less, most));
   stay_count = (let same = (trial_few p ids).1 in let most = whole.stay_count in omega (arith, same, most));
 }
-
--- the attributes at 0 rise where the stays do
-pub zeros_rise : (p : Problem) → HasRisingStays p → AreRising (zeros (attrs_of p))
-zeros_rise p h =
-    pairs-unmapped at (λ (a b : ℕ). a < b) (zeros (attrs_of p))
-    (subst (λ (ns : List ℕ). AllPairs (λ (a b : ℕ). a < b) ns) (sym (zeros-attrs (attrs_of p))) (pairs-map attr_of (λ (a b : ℕ). a < b) p.stays h))
 
 -- multipliers that are shown are those of a conflict
 pub shown_conflict : (p : Problem) (ids : List ℕ) (by : List By) → IsWhole p → IsShownConflict (trial p ids) by → IsInConflict (trial p ids)

@@ -3,5 +3,6 @@ pub mod Shown
 pub mod Trials
 pub mod Searches
 pub mod Yielding
+pub mod Nearby
 pub mod Laws
 pub mod Instances

@@ -1,5 +1,5 @@
 -- Trials: what becomes of some required rows on an engine that holds nothing.
-use Rattle.std.specs.Prelude.{ℕ, ◌<◌, false, List, [], AllPairs}
+use Rattle.std.specs.Prelude.{ℕ, false, List, []}
 use Rattle.problem_core.specs.Layout.{Problem}
 use Rattle.cert_core.specs.Stops.{IsShownConflict, IsStopOf}
 use Rattle.cert_core.specs.declared.stops.RunStop.{RunStop}
@@ -16,10 +16,6 @@ use Rattle.conflict_core.specs.declared.trials.Outcome.TheVariants.{Solved, Refu
 -- the layout of no attribute and no row, as an engine is made
 abbrev pub nothing : Layout
 nothing = record { problem = record { rows = []; stays = [] }; values = []; corner = []; earlier = [] }
-
--- the stays come by rising attribute, as an engine takes them
-abbrev pub HasRisingStays : Problem → Type 0
-HasRisingStays p = AllPairs (λ s t. s.attr < t.attr) p.stays
 
 -- the rows of these numbers come to values that satisfy them, or to multipliers that refute them
 abbrev pub IsOutcome : Problem → List ℕ → Outcome → Type 0

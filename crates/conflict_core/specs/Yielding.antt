@@ -1,6 +1,6 @@
 -- One engine for all rows that clash, of which one gives way.
-use Rattle.std.specs.Prelude.{◌≡◌, ℕ, List, [], ◌∷◌, length, All, AllPairs, Any}
-use Rattle.frac_core.specs.Fraction.{Fraction, IsKept}
+use Rattle.std.specs.Prelude.{◌≡◌, ℕ, List, [], ◌∷◌, length, All, Any}
+use Rattle.frac_core.specs.Fraction.{IsKept}
 use Rattle.problem_core.specs.Layout.{Problem, Row}
 use Rattle.problem_core.specs.declared.parts.Stay.{Stay}
 use Rattle.corner.specs.Shifts.Shifting.{IsNear}

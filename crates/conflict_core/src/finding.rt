@@ -1,14 +1,16 @@
 // What the required rows of a problem come to.
-ghost use Rattle.std.specs.Prelude.{◌≡◌, ℕ, List, map, IfOk, IfErr};
+ghost use Rattle.std.specs.Prelude.{◌≡◌, ◌<◌, ℕ, List, length, map, IfOk, IfErr};
+ghost use Rattle.version_list.specs.declared.TheConstants.{VERSION_LIMIT};
 ghost use Rattle.problem_core.specs.Certificates.{required};
 ghost use Rattle.cert_core.specs.Stops.{IsShownConflict};
 ghost use Rattle.conflict_core.specs.Cores.{trial};
 ghost use Rattle.conflict_core.specs.Shown.{IsFound};
 ghost use Rattle.conflict_core.specs.Searches.{AreTrials};
-ghost use Rattle.conflict_core.specs.Trials.{HasRisingStays, IsCoreStop, nothing};
+ghost use Rattle.conflict_core.specs.Trials.{IsCoreStop, nothing};
 
 use crate::found::{CoreStop, Found};
-use crate::listing::{attributes, required_rows};
+use crate::listing::{attributes, numbers, required_rows};
+use crate::nearby::{Known, asked};
 use crate::search::{begun, searched};
 use crate::trials::{Outcome, Trials, tried};
 use crate::yielding::hasten;
@@ -74,15 +76,17 @@ fn found_anew_among(alloc: Global, t: &Trials, by: Conflict) -> Result<Found, Co
 /// `Unfit` and `Spent` are those of one trial, an addition of the rows that are named as held to an engine
 /// that holds nothing, with the whole budget.
 pub fn core(alloc: Global, p: &Problem, budget: u64) -> Result<Found, CoreStop>
-    requires rising { HasRisingStays p.now }
     ensures found { IfOk result (IsFound p.now) }
     ensures stop { IfErr result (IsCoreStop p.now budget) }
 {
+    p.show_whole(); // for the proof: what a problem keeps
     let attrs = attributes(alloc, p)?;
+    let numbers = numbers(alloc, p)?;
     let all = required_rows(alloc, p)?;
     let trials = Trials {
         problem: p,
         attrs: &attrs,
+        numbers: &numbers,
         budget,
     };
     found_anew(alloc, &trials, &all)
@@ -93,16 +97,36 @@ pub fn core(alloc: Global, p: &Problem, budget: u64) -> Result<Found, CoreStop>
 ///
 /// The stops are those of `core`.
 pub fn core_among(alloc: Global, p: &Problem, by: Conflict, budget: u64) -> Result<Found, CoreStop>
-    requires rising { HasRisingStays p.now }
     requires shown { IsShownConflict p.now by }
     ensures found { IfOk result (IsFound p.now) }
     ensures stop { IfErr result (IsCoreStop p.now budget) }
 {
+    p.show_whole(); // for the proof: what a problem keeps
     let attrs = attributes(alloc, p)?;
+    let numbers = numbers(alloc, p)?;
     let trials = Trials {
         problem: p,
         attrs: &attrs,
+        numbers: &numbers,
         budget,
     };
     found_anew_among(alloc, &trials, by)
+}
+
+/// The same as `core`, where an engine holds most of the problem's rows, or all of them with other constants.
+/// It is asked first, and is as before: its path to what it lacks is short, and ends at values, or at
+/// multipliers that name few rows. Whatever else it ends at, the search begins from nothing.
+///
+/// The stops are those of `core`.
+pub fn core_near(alloc: Global, e: &mut Engine, p: &Problem, budget: u64) -> Result<Found, CoreStop>
+    requires room { length e.old.earlier < VERSION_LIMIT }
+    ensures found { IfOk result (IsFound p.now) }
+    ensures stop { IfErr result (IsCoreStop p.now budget) }
+    ensures same { e.new ≡ e.old }
+{
+    match asked(alloc, e, p, budget)? {
+        Known::Solvable => Ok(Found::Solvable),
+        Known::Refuted(by) => core_among(alloc, p, by, budget),
+        Known::Nothing => core(alloc, p, budget),
+    }
 }

@@ -27,13 +27,15 @@
 //! way in turn by a change of two constants ([`layout_solver::Engine::shift`]), which takes few exchanges or
 //! none. Where that stops, the trials go on.
 //!
-//! Who has multipliers already, from an engine that holds most of the rows, spares the first trial
-//! ([`core_among`]), which is the dearest.
+//! The first trial is the dearest. Who has multipliers already spares it ([`core_among`]), and so does who has
+//! an engine that holds most of the rows ([`core_near`]): from its corner the path to what it lacks is short,
+//! and ends at values or at multipliers. The engine is as before, and what it names is checked.
 //!
 //! | Clause | Says |
 //! |---|---|
 //! | `found` | solvable: some assignment satisfies the required rows; a core: it is one, and shown |
 //! | `stop` | the trial of the rows that are named as held stops so on an engine that holds nothing |
+//! | `same` | the engine that is asked is as before |
 //!
 //! The laws say what that is worth: what is shown is a core ([`shown_is_core`]), so the problem is in
 //! conflict ([`core_is_conflict`], [`found_decides`]), and whatever is less than a core has a solution
@@ -46,19 +48,20 @@
 //!
 //! To read: `found` (what is answered), `listing` (rows and attributes of a problem), `trials` (one trial),
 //! `search` (from rows that clash to a core), `yielding` (values without each of them on one engine),
-//! `finding` ([`core`]), `laws`; `specs/Cores.antt` says what a core is, and `specs/Shown.antt` what shows
-//! one.
+//! `nearby` (what an engine says that holds most of the rows), `finding` ([`core`]), `laws`;
+//! `specs/Cores.antt` says what a core is, and `specs/Shown.antt` what shows one.
 #![tactic(auto)]
 
 mod finding;
 mod found;
 mod laws;
 mod listing;
+mod nearby;
 mod search;
 mod trials;
 mod yielding;
 
-pub use finding::{core, core_among};
+pub use finding::{core, core_among, core_near};
 pub use found::{CoreStop, Found};
 pub use laws::{
     core_is_conflict, cores_are_found, found_decides, proper_parts_are_solvable, shown_is_core,

@@ -1,6 +1,8 @@
 // Trials: some required rows on an engine that holds nothing.
-ghost use Rattle.std.specs.Prelude.{◌≡◌, ◌<◌, ℕ, [], ◌∷◌, length, AllPairs, IfOk, IfErr, OnErr};
+ghost use Rattle.std.specs.Prelude.{◌≡◌, ◌<◌, ℕ, [], ◌∷◌, length, map, All, AllPairs, IfOk, IfErr, OnErr};
+ghost use Rattle.problem_core.specs.Gaps.{value_of};
 ghost use Rattle.problem_core.specs.Layout as layout;
+ghost use Rattle.problem_core.specs.Layout.{HasStay};
 ghost use Rattle.layout_solver.specs.Layouts.{solution_of};
 ghost use Rattle.conflict_core.specs.Cores.{AreRequired, trial};
 ghost use Rattle.conflict_core.specs.Trials.{IsCoreStop, IsOutcome, IsStopOfTrial, nothing};
@@ -9,16 +11,18 @@ ghost use Rattle.conflict_core.specs.Searches.{AreTrials};
 use crate::found::CoreStop;
 use crate::listing::tried_rows;
 use cert_core::{Conflict, RunStop};
-use frac_core::OutOfMemory;
+use frac_core::{Frac, OutOfMemory};
 use layout_solver::Engine;
 use problem_core::{Problem, Values};
 use std::alloc::Global;
 
-/// What is tried: a problem, its attributes in the order of their stays, and the budget of each trial.
+/// What is tried: a problem, its attributes in the order of their stays and by number, and the budget of each
+/// trial.
 #[derive(Drop)]
 pub(crate) struct Trials<'a> {
     pub problem: &'a Problem,
     pub attrs: &'a [u32],
+    pub numbers: &'a [u32],
     pub budget: u64,
 }
 
@@ -44,25 +48,37 @@ fn add_rows(alloc: Global, e: &mut Engine, t: &Trials, ids: &[u32]) -> Result<()
     e.add(t.attrs, &rows, t.budget)
 }
 
-/// The values of an engine, by rising attribute.
-pub(crate) fn values_of(alloc: Global, e: &Engine) -> Result<Values, OutOfMemory>
-    ensures { IfOk result (λ values. values ≡ e.now.values) }
+// The value of an attribute.
+fn value_of(e: &Engine, attr: u32) -> Frac
+    requires { HasStay e.now.problem.stays attr }
+    ensures { result ≡ value_of e.now.values attr }
 {
     e.show_layout(); // for the proof: what an engine keeps
+    e.value_at(attr)
+}
+
+/// The values of these attributes, which rise.
+pub(crate) fn values_of(alloc: Global, e: &Engine, attrs: &[u32]) -> Result<Values, OutOfMemory>
+    requires held { All (HasStay e.now.problem.stays) attrs.now }
+    requires rising { AllPairs (λ a b. a < b) attrs.now }
+    ensures { IfOk result (λ values. values ≡ map (λ a. (a, value_of e.now.values a)) attrs.now) }
+{
     let mut pairs = Vec::new(alloc);
-    for stay in e.stays() {
-        pairs.push((stay.attr, e.value_at(stay.attr)))?;
+    for attr in attrs {
+        pairs.push((*attr, value_of(e, *attr)))?;
     }
     Values::of(alloc, &pairs)
 }
 
-// The values of an engine, which goes back to the layout before.
-fn taken(alloc: Global, e: &mut Engine) -> Result<Values, OutOfMemory>
-    requires { 0 < length e.old.earlier }
-    ensures values { IfOk result (λ values. values ≡ e.old.values) }
+// The values of these attributes, which rise, on an engine that goes back to the layout before.
+fn taken(alloc: Global, e: &mut Engine, attrs: &[u32]) -> Result<Values, OutOfMemory>
+    requires marked { 0 < length e.old.earlier }
+    requires held { All (HasStay e.old.problem.stays) attrs.now }
+    requires rising { AllPairs (λ a b. a < b) attrs.now }
+    ensures values { IfOk result (λ values. values ≡ map (λ a. (a, value_of e.old.values a)) attrs.now) }
     ensures back { e.old.earlier ≡ solution_of e.new ∷ e.new.earlier }
 {
-    let values = values_of(alloc, e);
+    let values = values_of(alloc, e, attrs);
     e.back();
     values
 }
@@ -114,7 +130,7 @@ pub(crate) fn tried(
     match add_rows(alloc, e, t, ids) {
         Ok(()) => {
             e.show_layout(); // for the proof: what an engine keeps
-            Ok(Outcome::Solved(taken(alloc, e)?))
+            Ok(Outcome::Solved(taken(alloc, e, t.numbers)?))
         }
         Err(stop) => outcome_of(alloc, ids, stop),
     }

@@ -105,8 +105,8 @@ fn yielded(own: &Change, times: i64, clash: Frac) -> Option<Change>
     })
 }
 
-// Whether the row may get the constant.
-fn may_get(rows: &[Row], to: &Change) -> bool
+/// Whether the row may get the constant.
+pub(crate) fn may_get(rows: &[Row], to: &Change) -> bool
     requires rising { AllPairs (λ r s. r.id < s.id) rows.now }
     requires kept { IsKept to.now.constant }
     ensures { IsTrue result → MayGet rows.now to.now }
@@ -243,7 +243,7 @@ fn keep_values(
     ensures nearer { IfOk result (λ _. left_of s.new < left_of s.old) }
 {
     e.show_layout(); // for the proof: what an engine keeps
-    let values = values_of(alloc, e)?;
+    let values = values_of(alloc, e, t.numbers)?;
     s.without.push((to.row, values))?;
     Ok(())
 }

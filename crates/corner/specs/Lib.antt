@@ -1,4 +1,5 @@
 pub mod Views
 pub mod Changes
+pub mod Fronted
 pub mod Shifts
 pub mod Removals

@@ -1,5 +1,5 @@
 // A problem and one of its corners.
-ghost use Rattle.std.specs.Prelude.{◌≡◌, ◌<◌, ◌≤◌, ◌↔◌, ◌-◌, ◌+◌, ℕ, List, [], ◌∷◌, pos, length};
+ghost use Rattle.std.specs.Prelude.{◌≡◌, ◌≢◌, ◌<◌, ◌≤◌, ◌↔◌, ◌-◌, ◌+◌, ℕ, List, [], ◌∷◌, pos, length};
 ghost use Rattle.std.specs.Prelude.{false, take, true, All, AllPairs, Any, Contains, IfOk, IfErr, IfSome};
 ghost use Rattle.std.specs.Prelude.{IfNone};
 ghost use Rattle.std.specs.Prelude.{OnErr, OnOk, slice_get, Some};
@@ -43,8 +43,10 @@ ghost use Rattle.corner.specs.Removals.Dropping.{AreLeftListed, dropped};
 ghost use Rattle.corner.specs.Removals.Leaving.{IsLeaver, IsLevelLeft, marks_left, problem_left};
 ghost use Rattle.corner_table.specs.Tables.{Lists, lists_of, marks_at, problem_of};
 ghost use Rattle.corner_table.specs.Histories.{AreAlike, lists_before};
+ghost use Rattle.stay_orders.specs.Orders.{fronted};
 ghost use Rattle.corner_table.specs.Invariants.{IsConsistent, IsEarlier, view_of};
 
+use crate::fronting::front_stays;
 use crate::leaving::dropping::{drop_line, drop_stay, list_left};
 use crate::leaving::{Leaver, Left, leaver_of, left_level};
 use crate::shifting::shift_row;
@@ -216,6 +218,21 @@ fn take_attr(table: &mut Table, listed: &mut Listed, attr: u32) -> Result<(), Ou
     listed.leave(attr_slot(table, attr));
     listed.leave(line_slot(table, RowName::Stay(attr)));
     drop_stay(table, attr)
+}
+
+// Puts the stays of these attributes before all others.
+fn put_front(table: &mut Table, listed: &mut Listed, attrs: &[u32]) -> Result<(), OutOfMemory>
+    requires consistent { IsConsistent table.old listed.old }
+    requires held { All (HasStay table.old.stays.items) attrs.now }
+    requires apart { AllPairs (λ a b. a ≢ b) attrs.now }
+    ensures consistent { OnOk result (IsConsistent table.new listed.new) }
+    ensures problem { OnOk result (problem_of (lists_of table.new)
+        ≡ fronted attrs.now (problem_of (lists_of table.old))) }
+    ensures marks { OnOk result (SameMarks (marks_at (lists_of table.new)) (marks_at (lists_of table.old))) }
+    ensures before { lists_before table.new ≡ lists_before table.old }
+    ensures alike { AreAlike table.new }
+{
+    front_stays(table, listed, attrs)
 }
 
 // Whether both are marks of one line.
@@ -631,6 +648,27 @@ impl Corner {
         ensures same { OnErr result (IsRewound self.old self.new) }
     {
         match stand_stays(&mut self.table) {
+            Ok(()) => Ok(()),
+            Err(OutOfMemory) => {
+                take_back(&mut self.table, &mut self.listed);
+                Err(OutOfMemory)
+            }
+        }
+    }
+
+    /// Puts the stays of these attributes before all others, in this order; the others keep theirs. The marks
+    /// inside and all values stay, and columns may turn negative. After want of memory the corner is that of
+    /// the newest mark.
+    pub fn put_first(&mut self, attrs: &[u32]) -> Result<(), OutOfMemory>
+        requires marked { 0 < length self.old.before }
+        requires held { All (HasStay self.old.problem.stays) attrs.now }
+        requires apart { AllPairs (λ a b. a ≢ b) attrs.now }
+        ensures problem { IfOk result (λ _. self.new.problem ≡ fronted attrs.now self.old.problem) }
+        ensures marks { IfOk result (λ _. SameMarks self.new.marks self.old.marks) }
+        ensures before { self.new.before ≡ self.old.before }
+        ensures same { OnErr result (IsRewound self.old self.new) }
+    {
+        match put_front(&mut self.table, &mut self.listed, attrs) {
             Ok(()) => Ok(()),
             Err(OutOfMemory) => {
                 take_back(&mut self.table, &mut self.listed);

@@ -59,9 +59,9 @@ ghost use Rattle.corner_joins.specs.Additions.CostJoins.{with_cost, with_next};
 use cert_core::RunStop;
 use corner_exchange::{Change, named_row, named_sum, negated, put_change};
 use corner_table::{
-    Listed, Owner, Priority, Slot, Standing, Table, attr_slot, costs, line_slot, list_row,
-    next_slot, own_of, path_stop, priority_at, priority_level, product, push_slot, put_number,
-    share, side_in, sign, slot_at, value_at,
+    Listed, OWN_RANK, Owner, Priority, Slot, Standing, Table, attr_slot, costs, line_slot,
+    list_row, next_slot, own_of, path_stop, priority_at, priority_level, product, push_slot,
+    put_number, share, side_in, sign, slot_at, value_at,
 };
 use corner_writings::{Draft, Pair, does_level_fit};
 use frac_core::{Frac, OutOfMemory, PART_BOUND, Stop, common_divisor};
@@ -83,6 +83,7 @@ fn push_attr_slots(table: &mut Table, attr: u32, target: Frac, at: u32) -> Resul
     let attr_slot = Slot {
         owner: Owner::Attr(attr),
         home: at,
+        rank: 0,
         weight: 1,
         scale: 1,
         rel: problem_core::Rel::Eq,
@@ -92,6 +93,7 @@ fn push_attr_slots(table: &mut Table, attr: u32, target: Frac, at: u32) -> Resul
     let stay_slot = Slot {
         owner: Owner::Line(RowName::Stay(attr)),
         home: at + 1,
+        rank: OWN_RANK + u64::from(at + 1),
         ..attr_slot
     };
     let none = IntRow::empty(table.alloc);
@@ -321,6 +323,7 @@ fn slot_of(row: &Row) -> Slot
     Slot {
         owner: Owner::Line(RowName::Held(row.id())),
         home: u32::from(REQUIRED - row.rank()),
+        rank: 0,
         weight: i64::from(row.weight()),
         scale: row.scale(),
         rel: row.rel(),

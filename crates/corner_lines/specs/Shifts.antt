@@ -4,7 +4,8 @@ use Rattle.frac_core.specs.Fraction.{Fraction, IsRatio, sum_den, sum_num}
 use Rattle.problem_core.specs.declared.parts.Mark.{Mark}
 use Rattle.problem_core.specs.declared.parts.RowName.{RowName}
 use Rattle.problem_core.specs.declared.parts.RowName.TheVariants.{Held}
-use Rattle.problem_core.specs.Layout.{Problem, Row}
+use Rattle.problem_core.specs.Layout.{Problem, Row, lines}
+use Rattle.corner_lines.specs.Fronts.{constantless}
 use Rattle.corner_lines.specs.LineEquations.{IsLineEquation, deviation}
 
 -- the row with this constant, if its number is `id`, and else as it is
@@ -22,6 +23,10 @@ has_constant id f r = cond (nat_eq r.id id) (record {
 -- the problem with another constant in one row
 abbrev pub with_constant : ℕ → Fraction → Problem → Problem
 with_constant id f p = record { rows = map (has_constant id f) p.rows; stays = p.stays }
+
+-- the two problems have the same lines but for constants and targets
+abbrev pub AreSeenAlike : Problem → Problem → Type 0
+AreSeenAlike p q = map constantless (lines p) ≡ map constantless (lines q)
 
 -- the problem has the row, its constant is `from`, and `more` is what `to` is above it
 pub record IsShift (p : Problem) (id : ℕ) (from to more : Fraction) : Type 0 where

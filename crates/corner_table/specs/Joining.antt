@@ -13,6 +13,7 @@ use Rattle.corner_table.specs.declared.table.Owner.TheVariants.{Attr as AttrSlot
 use Rattle.corner_table.specs.declared.table.Slot.{Slot}
 use Rattle.corner_table.specs.declared.table.Standing.{Standing}
 use Rattle.corner_table.specs.declared.table.Table.{Table}
+use Rattle.corner_table.specs.declared.table.TheConstants.{OWN_RANK}
 use Rattle.corner_table.specs.Tables.{Lists, row_at}
 
 -- ---- earlier versions
@@ -49,7 +50,7 @@ with_level level t = record {
   rows = t.rows;
   stays = t.stays;
   slots = t.slots
-      ++ (record { owner = LevelSlot; home = level; weight = pos 1; scale = pos 1; rel = Eq } ∷ []);
+      ++ (record { owner = LevelSlot; home = level; rank = level; weight = pos 1; scale = pos 1; rel = Eq } ∷ []);
   standings = t.standings ++ (record { side = None; value = zero_fraction } ∷ []);
   matrix = t.matrix ++ ([] ∷ []);
   attr_slots = t.attr_slots;
@@ -93,13 +94,22 @@ at_value value = record { side = None; value = value }
 
 -- what the slot w says where it is the attribute's
 abbrev pub slot_of_attr : ℕ → ℕ → Slot
-slot_of_attr attr w = record { owner = AttrSlot attr; home = w; weight = pos 1; scale = pos 1; rel = Eq }
+slot_of_attr attr w = record {
+  owner = AttrSlot attr;
+  home = w;
+  rank = 0;
+  weight = pos 1;
+  scale = pos 1;
+  rel = Eq;
+}
 
--- what the slot w says where it is that of the attribute's stay: its home is itself
+-- what the slot w says where it is that of the attribute's stay: its home is itself, and its rank at first
+-- its own
 abbrev pub slot_of_stay : ℕ → ℕ → Slot
 slot_of_stay attr w = record {
   owner = LineSlot (StayOf attr);
   home = w;
+  rank = OWN_RANK + w;
   weight = pos 1;
   scale = pos 1;
   rel = Eq;
@@ -110,6 +120,7 @@ abbrev pub slot_of_row : Row → Slot
 slot_of_row r = record {
   owner = LineSlot (Held r.id);
   home = rank_level r.rank;
+  rank = 0;
   weight = pos r.weight;
   scale = pos r.scale;
   rel = r.rel;

@@ -24,10 +24,10 @@ use Rattle.corner_lines.specs.LineEquations.{IsLineEquation, IsOutsideLine, devi
 use Rattle.corner_table.specs.declared.table.Owner.{Owner}
 use Rattle.corner_table.specs.declared.table.Owner.TheVariants.{Level as LevelSlot, Attr as AttrSlot}
 use Rattle.corner_table.specs.declared.table.Owner.TheVariants.{Line as LineSlot}
-use Rattle.corner_table.specs.declared.table.TheConstants.{LEVELS}
+use Rattle.corner_table.specs.declared.table.TheConstants.{LEVELS, OWN_RANK}
 use Rattle.corner_table.specs.Tables.{Lists, attr_slot, entry, line_slot, marks_at, number, priority_at}
 use Rattle.corner_table.specs.Tables.{problem_of}
-use Rattle.corner_table.specs.Tables.{row_at, slot_at, standing_at}
+use Rattle.corner_table.specs.Tables.{row_at, slot_at, standing_at, stay_rank}
 
 -- ---- slots
 
@@ -60,8 +60,17 @@ IsOwned t w LevelSlot = Unit {0}
 IsOwned t w (AttrSlot attr) = HasStay t.stays attr × (attr_slot t attr ≡ w)
 IsOwned t w (LineSlot name) = Any (λ l. l.name ≡ name) (lines (problem_of t)) × (line_slot t name ≡ w)
 
--- each attribute, stay and row has a slot, and each slot past the levels' is one of theirs or of nothing; the
--- stays' come in order, and another slot may follow each
+-- what the slot is of is a stay's line
+abbrev pub IsStayOwner : Owner → Type 0
+IsStayOwner LevelSlot = ⊥
+IsStayOwner (AttrSlot attr) = ⊥
+IsStayOwner (LineSlot (Held id)) = ⊥
+IsStayOwner (LineSlot (StayOf attr)) = Unit {0}
+
+-- each attribute, stay and row has a slot, and each slot past the levels' is one of theirs or of nothing, and
+-- another slot may follow an attribute's; a level is stronger than another where its rank is lower: those of
+-- the priority levels are their numbers, and those of the stays' come in their order, behind them; no rank is
+-- above the slot's own, and of two stays of which the first by slot has its own rank the other has a higher one
 pub record AreSlots (t : Lists) : Type 0 where
   pub standings : length t.standings ≡ length t.slots
   pub matrix : length t.matrix ≡ length t.slots
@@ -73,7 +82,12 @@ pub record AreSlots (t : Lists) : Type 0 where
   pub owners : (w : ℕ) → IsSlot t w → IsOwned t w (slot_at t w).owner
   pub level_owners : (w : ℕ) → w < LEVELS → (slot_at t w).owner ≡ LevelSlot
   pub level_homes : (w : ℕ) → w < LEVELS → (slot_at t w).home ≡ w
-  pub stays_rise : AllPairs (λ s r. attr_slot t s.attr < attr_slot t r.attr) t.stays
+  pub level_ranks : (w : ℕ) → w < LEVELS → (slot_at t w).rank ≡ w
+  pub stay_ranks : All (λ s. LEVELS ≤ stay_rank t s.attr) t.stays
+  pub stays_rise : AllPairs (λ s r. stay_rank t s.attr < stay_rank t r.attr) t.stays
+  pub ranks : (w : ℕ) → (slot_at t w).rank ≤ OWN_RANK + w
+  pub own_last : (v w : ℕ) → v < w → IsStayOwner (slot_at t v).owner → IsStayOwner (slot_at t w).owner
+      → OWN_RANK ≤ (slot_at t v).rank → (slot_at t v).rank < (slot_at t w).rank
 
 -- the slot is a line's
 abbrev pub IsLineAt : Lists → ℕ → Type 0
@@ -83,13 +97,6 @@ IsLineAt t w = IsSlot t w × ((name : RowName) × ((slot_at t w).owner ≡ LineS
 pub record AreStored (t : Lists) : Type 0 where
   pub few : length t.slots < 2 ^ 32
   pub empty : (w : ℕ) → LEVELS ≤ w → (slot_at t w).owner ≡ LevelSlot → row_at t w ≡ []
-
--- what the slot is of is a stay's line
-abbrev pub IsStayOwner : Owner → Type 0
-IsStayOwner LevelSlot = ⊥
-IsStayOwner (AttrSlot attr) = ⊥
-IsStayOwner (LineSlot (Held id)) = ⊥
-IsStayOwner (LineSlot (StayOf attr)) = Unit {0}
 
 -- the slot's row is the cost of a level
 abbrev pub HasCost : Lists → ℕ → Type 0

@@ -62,6 +62,7 @@ abbrev pub slot_at : Lists → ℕ → Slot
 slot_at t w = slice_index_or t.slots w (record {
   owner = LevelSlot;
   home = 0;
+  rank = 0;
   weight = pos 1;
   scale = pos 1;
   rel = Eq;
@@ -104,6 +105,10 @@ attr_slot t attr = slice_index_or t.attr_slots attr 0
 abbrev pub line_slot : Lists → RowName → ℕ
 line_slot t (Held id) = slice_index_or t.row_slots id 0
 line_slot t (StayOf attr) = attr_slot t attr + 1
+
+-- the rank of the level of an attribute's stay
+abbrev pub stay_rank : Lists → ℕ → ℕ
+stay_rank t attr = (slot_at t (attr_slot t attr + 1)).rank
 
 -- the slot whose row is the level's cost: of a stay's that of the stay
 abbrev pub level_slot : Lists → Level → ℕ

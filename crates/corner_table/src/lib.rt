@@ -9,7 +9,7 @@
 //! ```
 //! let mut table = new_table(alloc)?;            // the slots of the priority levels, and nothing else
 //! mark(&mut table);
-//! let slot = Slot { owner: Owner::Attr(1), home: LEVELS, weight: 1, scale: 1, rel: Rel::Eq };
+//! let slot = Slot { owner: Owner::Attr(1), home: LEVELS, rank: 0, weight: 1, scale: 1, rel: Rel::Eq };
 //! push_slot(&mut table, slot, None, Frac::zero(), row)?;
 //! value_at(&table, LEVELS);                     // 0
 //! back(&mut table);                             // the slots of the levels alone
@@ -42,6 +42,6 @@ pub use slots::{
 };
 pub use sums::{product, sum};
 pub use table::{
-    LEVELS, Owner, Priority, Slot, Standing, Table, back, forget, mark, new_table, next_slot,
-    push_slot, rewind,
+    LEVELS, OWN_RANK, Owner, Priority, Slot, Standing, Table, back, forget, mark, new_table,
+    next_slot, push_slot, rewind,
 };

@@ -18,6 +18,10 @@ use version_list::VersionList;
 /// which they came.
 pub const LEVELS: u32 = FIRST_STAY_LEVEL;
 
+/// What the number of a stay's slot is above to be its own rank. Ranks that `put_first` of `corner` gives are
+/// below it.
+pub const OWN_RANK: u64 = 1 << 32;
+
 /// The slot of a number that has none.
 pub(crate) const ABSENT: u32 = 0;
 
@@ -32,12 +36,15 @@ pub enum Owner {
     Line(RowName),
 }
 
-/// What does not change of a slot. The home is the slot of a line's level, a stay's own; only lines have
-/// the rest.
+/// What an exchange does not change of a slot. The home is the slot of a line's level, a stay's own. The rank,
+/// which only levels have, says which of two is stronger: the one of the lower rank. That of a priority level
+/// is its number, and that of a stay's is its own, by its slot, until the stays come in another order. Only
+/// lines have the rest.
 #[derive(Clone, Copy, Debug, PartialEq, Eq)]
 pub struct Slot {
     pub owner: Owner,
     pub home: u32,
+    pub rank: u64,
     pub weight: i64,
     pub scale: i64,
     pub rel: Rel,
@@ -106,6 +113,7 @@ fn push_level(table: &mut Table, level: u32) -> Result<(), OutOfMemory>
     let slot = Slot {
         owner: Owner::Level,
         home: level,
+        rank: u64::from(level),
         weight: 1,
         scale: 1,
         rel: Rel::Eq,

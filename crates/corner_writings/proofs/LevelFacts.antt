@@ -5,6 +5,7 @@ pub mod LevelReadFacts
 pub mod LevelWrittenFacts
 pub mod LevelCostFacts
 pub mod LevelFrontFacts
+pub mod ColumnFronts
 pub mod LevelUseFacts
 pub mod UsedLevels
 pub mod FittingRows

@@ -2,14 +2,15 @@
 pub(crate) mod fitting;
 pub(crate) mod growing;
 
-ghost use Rattle.std.specs.Prelude.{◌≡◌, ◌*ℤ◌, ◌<◌, ◌≤◌, length, All, AllPairs, Contains, IfSome, IfNone};
+ghost use Rattle.std.specs.Prelude.{◌≡◌, ◌⊎◌, ◌*ℤ◌, ◌<◌, ◌≤◌, length, All, AllPairs, Contains, IfSome, IfNone};
 ghost use Rattle.std.specs.Prelude.{OnOk};
-ghost use Rattle.std.specs.Prelude.{ℕ, [], None, true, false, ◌↔◌};
+ghost use Rattle.std.specs.Prelude.{ℕ, [], None, Some, true, false, ◌↔◌};
 ghost use Rattle.frac_core.specs.Fraction.{IsFitting};
 ghost use Rattle.problem_core.specs.declared.parts.Level as level_type;
 ghost use Rattle.problem_core.specs.Levels.{IsCostAt, IsLevelAt};
 ghost use Rattle.corner_lines.specs.LineEquations.{sign_of};
 ghost use Rattle.corner_writings.specs.Fitting as fitting;
+ghost use Rattle.corner_table.specs.declared.table.TheConstants.{LEVELS, OWN_RANK};
 ghost use Rattle.corner_table.specs.Reads.LevelNumbers as numbers;
 ghost use Rattle.corner_table.specs.Reads.LevelNumbers.{IsCost, IsLevelSlot, IsLinesSlot, HasReducedAt};
 ghost use Rattle.corner_table.specs.Reads.LevelNumbers.{IsFirstInColumn, IsFirstSlot, IsLevelThere};
@@ -22,8 +23,8 @@ ghost use Rattle.corner_table.specs.Views.{IsInUse, IsLevelOf, IsMarkOf, IsStron
 ghost use Rattle.corner_writings.specs.Fronts.{HasNoFront, IsFrontOf};
 
 use corner_table::{
-    LEVELS, Slot, Table, cost_share, is_level, is_stay, level_of, level_slot, line_slot, own_of,
-    own_of_level, priority_at, priority_level, side_at, slot_at, unit_of, value_at,
+    LEVELS, OWN_RANK, Slot, Table, cost_share, is_level, is_stay, level_of, level_slot, line_slot,
+    own_of, own_of_level, priority_at, priority_level, side_at, slot_at, unit_of, value_at,
 };
 use frac_core::{Frac, OutOfMemory};
 use problem_core::{Level, Mark, Side};
@@ -186,7 +187,50 @@ fn has_reduced(table: &Table, l: u32, line: u32, side: Side) -> bool
     has_cost(table, l) && reduced_of(table, l, line, side) != 0
 }
 
-// The first of them in the line's column.
+// Which level of a slot is the stronger: that of the lower rank.
+fn rank_at(table: &Table, w: u32) -> u64
+    requires { w < length table.now.slots.items }
+    ensures { result ≡ (tables.slot_at (lists_of table.now) w).rank }
+{
+    slot_at(table, w).rank
+}
+
+// Whether the level of a slot is stronger than that of another.
+fn is_lower(table: &Table, l: u32, w: u32) -> bool
+    requires within { l < length table.now.slots.items }
+    requires other { w < length table.now.slots.items }
+    ensures { (result ≡ true)
+        ↔ ((tables.slot_at (lists_of table.now) l).rank < (tables.slot_at (lists_of table.now) w).rank) }
+{
+    rank_at(table, l) < rank_at(table, w)
+}
+
+// Whether the slot's level is stronger than the one that is found so far.
+fn is_before(table: &Table, l: u32, found: Option<u32>) -> bool
+    requires within { l < length table.now.slots.items }
+    requires found { IfSome found (λ best. best < length table.now.slots.items) }
+    ensures yes { result ≡ true → IfSome found (λ best.
+        (tables.slot_at (lists_of table.now) l).rank < (tables.slot_at (lists_of table.now) best).rank) }
+    ensures no { result ≡ false → (best : ℕ) × (found ≡ Some best)
+        × ((tables.slot_at (lists_of table.now) best).rank ≤ (tables.slot_at (lists_of table.now) l).rank) }
+{
+    match found {
+        Some(best) => rank_at(table, l) < rank_at(table, best),
+        None => true,
+    }
+}
+
+// Whether each level of a later slot is weaker: the slot is a priority level's, or a stay's with its own rank.
+fn ends_column(table: &Table, l: u32) -> bool
+    requires { l < length table.now.slots.items }
+    ensures yes { result ≡ true
+        → (l < LEVELS) ⊎ (OWN_RANK ≤ (tables.slot_at (lists_of table.now) l).rank) }
+    ensures no { result ≡ false → LEVELS ≤ l }
+{
+    is_level(l) || rank_at(table, l) >= OWN_RANK
+}
+
+// The strongest of them in the line's column.
 fn first_in_column(table: &Table, line: u32, side: Side) -> Option<u32>
     requires kept { IsKept (lists_of table.now) }
     requires line { IsSlotOfLine (lists_of table.now) line }
@@ -194,15 +238,19 @@ fn first_in_column(table: &Table, line: u32, side: Side) -> Option<u32>
     ensures within { IfSome result (λ l. l < length table.now.slots.items) }
     ensures none { IfNone result (IsNoneInColumn (lists_of table.now) line side) }
 {
+    let mut found = None;
     for l in table.matrix.column(line) {
-        if has_reduced(table, *l, line, side) {
-            return Some(*l);
+        if is_before(table, *l, found) && has_reduced(table, *l, line, side) {
+            if ends_column(table, *l) {
+                return Some(*l);
+            }
+            found = Some(*l);
         }
     }
-    None
+    found
 }
 
-// The first slot of a level at which the mark has a reduced cost.
+// The slot of the strongest level at which the mark has a reduced cost.
 fn first_slot(table: &Table, line: u32, side: Side) -> Option<u32>
     requires kept { IsKept (lists_of table.now) }
     requires line { IsSlotOfLine (lists_of table.now) line }
@@ -214,7 +262,7 @@ fn first_slot(table: &Table, line: u32, side: Side) -> Option<u32>
     let first = first_in_column(table, line, side);
     if has_reduced(table, home, line, side) {
         match first {
-            Some(l) if l < home => Some(l),
+            Some(l) if is_lower(table, l, home) => Some(l),
             _ => Some(home),
         }
     } else {
@@ -245,7 +293,7 @@ pub fn is_stronger(table: &Table, a: Level, b: Level) -> bool
     ensures no { result ≡ false → (j k : ℕ) → IsLevelAt (problem_of (lists_of table.now)) a j
         → IsLevelAt (problem_of (lists_of table.now)) b k → k ≤ j }
 {
-    level_slot(table, a) < level_slot(table, b)
+    rank_at(table, level_slot(table, a)) < rank_at(table, level_slot(table, b))
 }
 
 /// An exchange by slots: a line enters with a side, and a line leaves.

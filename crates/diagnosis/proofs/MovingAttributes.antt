@@ -1,109 +1,113 @@
 -- The attributes that move, one more at a time.
-use Rattle.std.proofs.Common.{◌≡◌, ◌≢◌, ◌∙◌, ℕ, ◌+◌, ◌<◌, List, [], ◌∷◌, ◌++◌, map, length, take, get_or, refl, sym, ap, subst, arith, All, AllPairs, append-nil}
-use Rattle.std.proofs.lemmas.List.{get_or-map, get_or-take, get_or_default, length-map, length-take-le, take_more}
-use Rattle.std.proofs.lemmas.List.Elements.{All-push}
+use Rattle.std.proofs.Common.{◌≡◌, ◌≢◌, ◌∙◌, ℕ, ◌+◌, ◌<◌, ◌≤◌, List, [], ◌∷◌, ◌++◌, length, take, get_or, refl, sym, ap, subst, arith, map, All, AllPairs, Contains, IsPermutation, IsSorted, append-nil}
+use Rattle.std.proofs.lemmas.List.{get_or-take, get_or_default, length-take-le, take_all, take_more}
+use Rattle.std.proofs.lemmas.List.Elements.{All-contains, All-nil, All-push, All-weaker, Contains-append_left, Contains-get_or, Contains-push}
 use Rattle.std.proofs.lemmas.List.Quantifiers.{all_pairs_push}
+use Rattle.std.specs.Ordering.{nat_cmp}
 use Rattle.frac_core.specs.Fraction.{Fraction}
 use Rattle.problem_core.specs.declared.parts.Stay.{Stay}
 use Rattle.problem_core.specs.Layout.{HasStay, Problem}
-use Rattle.problem_core.specs.Kept.{AreRising}
 use Rattle.problem_core.specs.Gaps.{value_of}
-use Rattle.problem_core.specs.Window.{zero_fraction}
 use Rattle.layout_solver.specs.Layouts.{Layout}
+use Rattle.layout_solver.proofs.StayNumbers.{held_there, numbers_held, numbers_rise}
 use Rattle.diagnosis.specs.declared.probing.Answer.{Answer}
 use Rattle.diagnosis.specs.declared.probing.Answer.TheVariants.{Fixed, Moves}
 use Rattle.diagnosis.specs.Ambiguity.{IsAmbiguous}
-use Rattle.diagnosis.specs.Probes.{AreMoving, CanProbe, CanProbeAll, IsAnswer, listed}
-use Rattle.diagnosis.proofs.UnmetRows.{any-last, front-all}
-use Rattle.frac_core.proofs.Lists.{any-front}
-
--- ---- the stays rise, as the values do
-
-pub stays_rise : (values : List (ℕ × Fraction)) (stays : List Stay) → map (λ v. v.0) values ≡ map (λ s. s.attr) stays → AreRising values → AllPairs (λ s t. s.attr < t.attr) stays
-stays_rise values stays e rising i j d less within =
-    let same : length values ≡ length stays = sym (length-map values (λ (v : ℕ × Fraction). v.0)) ∙ ap (λ (ns : List ℕ). length ns) e ∙ length-map stays (λ (s : Stay). s.attr) in
-    let low : (get_or values i (d.attr, zero_fraction)).0 < (get_or values j (d.attr, zero_fraction)).0 = rising i j (d.attr, zero_fraction) less (omega (arith, within, same)) in
-    let a = attr-at values stays e i d (omega (arith, within, same, less)) (omega (arith, within, less)) in
-    let b = attr-at values stays e j d (omega (arith, within, same)) within in
-    omega (arith, low, a, b)
-  where
-    attr-at : (us : List (ℕ × Fraction)) (ss : List Stay) → map (λ v. v.0) us ≡ map (λ s. s.attr) ss → (k : ℕ) (s : Stay) → k < length us → k < length ss → (get_or us k (s.attr, zero_fraction)).0 ≡ (get_or ss k s).attr
-    attr-at us ss h k s low short =
-        sym (get_or-map (λ (v : ℕ × Fraction). v.0) us k (s.attr, zero_fraction) s.attr low)
-        ∙ ap (λ (ns : List ℕ). get_or ns k s.attr) h
-        ∙ get_or-map (λ (t : Stay). t.attr) ss k s s.attr short
+use Rattle.diagnosis.specs.Probes.{AreMoving, AreMovingAmong, AreNumbersOf, CanProbe, CanProbeAll, IsAnswer, listed}
+use Rattle.diagnosis.proofs.UnmetRows.{front-all}
 
 -- ---- one more
 
-pub moving_skip : (p : Problem) (values : List (ℕ × Fraction)) (stays : List Stay) (moving : List (ℕ × Fraction)) (s : Stay) → (IsAmbiguous p s.attr → ⊥) → AreMoving p values stays moving → AreMoving p values (stays ++ s ∷ []) moving
-moving_skip p values stays moving s fixed are = record {
+-- an attribute more, which doesn't move
+moving_skip : (p : Problem) (values : List (ℕ × Fraction)) (attrs : List ℕ) (moving : List (ℕ × Fraction)) (attr : ℕ) → (IsAmbiguous p attr → ⊥) → AreMovingAmong p values attrs moving → AreMovingAmong p values (attrs ++ attr ∷ []) moving
+moving_skip p values attrs moving attr fixed are = record {
   answers = are.answers;
-  among = λ i d within. any-front (λ (t : Stay). t.attr ≡ (get_or moving i d).0) stays s (are.among i d within);
+  among = All-weaker (λ m. Contains attrs m.0) (λ m. Contains (attrs ++ attr ∷ []) m.0) (λ m. Contains-append_left attrs (attr ∷ []) m.0) moving are.among;
   rising = are.rising;
-  all = All-push (λ t. All (λ m. m.0 ≢ t.attr) moving → IsAmbiguous p t.attr → ⊥) stays s are.all (λ apart. fixed);
+  all = All-push (λ a. All (λ m. m.0 ≢ a) moving → IsAmbiguous p a → ⊥) attrs attr are.all (λ apart. fixed);
 }
 
 -- what is listed so far has lesser numbers
-listed-below : (p : Problem) (values : List (ℕ × Fraction)) (stays : List Stay) (moving : List (ℕ × Fraction)) (s : Stay) → All (λ t. t.attr < s.attr) stays → AreMoving p values stays moving → All (λ m. m.0 < s.attr) moving
-listed-below p values stays moving s below are i d within =
-    let n = are.among i d within in
-    let less : n.1.attr < s.attr = subst (λ (t : Stay). t.attr < s.attr) n.3 (below n.0 n.1 n.2) in
-    let same = n.4 in
-    omega (arith, less, same)
+listed-below : (p : Problem) (values : List (ℕ × Fraction)) (attrs : List ℕ) (moving : List (ℕ × Fraction)) (attr : ℕ) → All (λ a. a < attr) attrs → AreMovingAmong p values attrs moving → All (λ m. m.0 < attr) moving
+listed-below p values attrs moving attr below are = All-weaker (λ m. Contains attrs m.0) (λ m. m.0 < attr) (λ m. All-contains (λ a. a < attr) attrs m.0 below) moving are.among
 
-pub moving_push : (p : Problem) (values : List (ℕ × Fraction)) (stays : List Stay) (moving new : List (ℕ × Fraction)) (s : Stay) (f : Fraction) → All (λ t. t.attr < s.attr) stays → IsAnswer p s.attr (value_of values s.attr) (Moves f) → new ≡ moving ++ (s.attr, f) ∷ []
-    → AreMoving p values stays moving → AreMoving p values (stays ++ s ∷ []) new
-moving_push p values stays moving new s f below answer e are =
-    subst (AreMoving p values (stays ++ s ∷ [])) (sym e)
-    (record {
-      answers = All-push (λ m. IsAnswer p m.0 (value_of values m.0) (Moves m.1)) moving (s.attr, f) are.answers answer;
-      among = All-push (λ m. HasStay (stays ++ s ∷ []) m.0) moving (s.attr, f) (λ i d within. any-front (λ (t : Stay). t.attr ≡ (get_or moving i d).0) stays s (are.among i d within)) (any-last (λ (t : Stay). t.attr ≡ s.attr) stays s refl);
-      rising = all_pairs_push (λ m n. m.0 < n.0) moving (s.attr, f) are.rising (listed-below p values stays moving s below are);
-      all = All-push (λ t. All (λ m. m.0 ≢ t.attr) (moving ++ (s.attr, f) ∷ []) → IsAmbiguous p t.attr → ⊥) stays s
-          (λ i d within apart. are.all i d within (front-all (λ m. m.0 ≢ (get_or stays i d).attr) moving (s.attr, f) apart).0)
-          (λ apart. absurd ((front-all (λ m. m.0 ≢ s.attr) moving (s.attr, f) apart).1 refl));
-    })
+-- an attribute more, which moves
+moving_push : (p : Problem) (values : List (ℕ × Fraction)) (attrs : List ℕ) (moving : List (ℕ × Fraction)) (attr : ℕ) (f : Fraction) → All (λ a. a < attr) attrs → IsAnswer p attr (value_of values attr) (Moves f) → AreMovingAmong p values attrs moving
+    → AreMovingAmong p values (attrs ++ attr ∷ []) (moving ++ (attr, f) ∷ [])
+moving_push p values attrs moving attr f below answer are = record {
+  answers = All-push (λ m. IsAnswer p m.0 (value_of values m.0) (Moves m.1)) moving (attr, f) are.answers answer;
+  among = All-push (λ m. Contains (attrs ++ attr ∷ []) m.0) moving (attr, f) (All-weaker (λ m. Contains attrs m.0) (λ m. Contains (attrs ++ attr ∷ []) m.0) (λ m. Contains-append_left attrs (attr ∷ []) m.0) moving are.among) (Contains-push attrs attr);
+  rising = all_pairs_push (λ m n. m.0 < n.0) moving (attr, f) are.rising (listed-below p values attrs moving attr below are);
+  all = All-push (λ a. All (λ m. m.0 ≢ a) (moving ++ (attr, f) ∷ []) → IsAmbiguous p a → ⊥) attrs attr
+      (λ i d within apart. are.all i d within (front-all (λ m. m.0 ≢ get_or attrs i d) moving (attr, f) apart).0)
+      (λ apart. absurd ((front-all (λ m. m.0 ≢ attr) moving (attr, f) apart).1 refl));
+}
+
+-- by what is answered
+pub next_answered : (p : Problem) (values : List (ℕ × Fraction)) (attrs : List ℕ) (moving new : List (ℕ × Fraction)) (attr : ℕ) (answer : Answer) → All (λ a. a < attr) attrs → IsAnswer p attr (value_of values attr) answer → new ≡ moving ++ listed attr answer → AreMovingAmong p values attrs moving
+    → AreMovingAmong p values (attrs ++ attr ∷ []) new
+next_answered p values attrs moving new attr Fixed below fixed e are = subst (AreMovingAmong p values (attrs ++ attr ∷ [])) (sym (e ∙ append-nil moving)) (moving_skip p values attrs moving attr fixed are)
+next_answered p values attrs moving new attr (Moves f) below answer e are = subst (AreMovingAmong p values (attrs ++ attr ∷ [])) (sym e) (moving_push p values attrs moving attr f below answer are)
 
 -- ---- the loop
 
--- the stays before the i-th have lesser numbers
-lesser-before : (stays : List Stay) (i : ℕ) (s : Stay) → AllPairs (λ a b. a.attr < b.attr) stays → i < length stays → s ≡ get_or stays i s → All (λ t. t.attr < s.attr) (take i stays)
-lesser-before stays i s rising within is k d short =
-    let less : k < i = omega (arith, short, length-take-le i stays (omega (arith, within))) in
-    let low : (get_or stays k d).attr < (get_or stays i d).attr = rising k i d less within in
-    let a : (get_or (take i stays) k d).attr ≡ (get_or stays k d).attr = ap (λ (t : Stay). t.attr) (get_or-take i stays k d less) in
-    let b : (get_or stays i d).attr ≡ s.attr = ap (λ (t : Stay). t.attr) (get_or_default stays i d s within ∙ sym is) in
+pub moving_none : (p : Problem) (values : List (ℕ × Fraction)) → AreMovingAmong p values [] []
+moving_none p values = record {
+  answers = All-nil (λ (m : ℕ × Fraction). IsAnswer p m.0 (value_of values m.0) (Moves m.1));
+  among = All-nil (λ (m : ℕ × Fraction). Contains [] m.0);
+  rising = λ i j d less within. absurd (omega (arith, within));
+  all = All-nil (λ (a : ℕ). All (λ (m : ℕ × Fraction). m.0 ≢ a) [] → IsAmbiguous p a → ⊥);
+}
+
+-- those before the i-th are lesser
+lesser-before : (attrs : List ℕ) (i : ℕ) → AllPairs (λ a b. a < b) attrs → i < length attrs → All (λ a. a < get_or attrs i 0) (take i attrs)
+lesser-before attrs i rising within k d short =
+    let less : k < i = omega (arith, short, length-take-le i attrs (omega (arith, within))) in
+    let low : get_or attrs k 0 < get_or attrs i 0 = rising k i 0 less within in
+    let a : get_or (take i attrs) k d ≡ get_or attrs k d = get_or-take i attrs k d less in
+    let b : get_or attrs k d ≡ get_or attrs k 0 = get_or_default attrs k d 0 (omega (arith, less, within)) in
     omega (arith, low, a, b)
 
--- with the i-th stay as well
-one-more : (p : Problem) (values : List (ℕ × Fraction)) (stays : List Stay) (new : List (ℕ × Fraction)) (i : ℕ) (s : Stay) → i < length stays → s ≡ get_or stays i s → AreMoving p values (take i stays ++ s ∷ []) new → AreMoving p values (take (i + 1) stays) new
-one-more p values stays new i s within is h =
-    subst (λ (done : List Stay). AreMoving p values done new) (ap (λ (t : Stay). take i stays ++ t ∷ []) is ∙ sym (take_more stays i s within)) h
+-- with the i-th as well, by an engine that is as before
+pub next_among : (l here : Layout) (attrs : List ℕ) (moving new : List (ℕ × Fraction)) (i : ℕ) → here ≡ l → AllPairs (λ a b. a < b) attrs → i < length attrs
+    → ((done : List ℕ) → All (λ a. a < get_or attrs i 0) done → AreMovingAmong here.problem here.values done moving → AreMovingAmong here.problem here.values (done ++ get_or attrs i 0 ∷ []) new)
+    → AreMovingAmong l.problem l.values (take i attrs) moving → AreMovingAmong l.problem l.values (take (i + 1) attrs) new
+next_among l here attrs moving new i same rising within step are =
+    subst (λ (k : Layout). AreMovingAmong k.problem k.values (take (i + 1) attrs) new) same
+    (subst (λ (done : List ℕ). AreMovingAmong here.problem here.values done new) (sym (take_more attrs i 0 within))
+    (step (take i attrs) (lesser-before attrs i rising within)
+    (subst (λ (k : Layout). AreMovingAmong k.problem k.values (take i attrs) moving) (sym same) are)))
 
-next-fixed : (p : Problem) (values : List (ℕ × Fraction)) (stays : List Stay) (moving : List (ℕ × Fraction)) (i attr : ℕ) (s : Stay) → i < length stays → s ≡ get_or stays i s → attr ≡ s.attr → (IsAmbiguous p attr → ⊥) → AreMoving p values (take i stays) moving → AreMoving p values (take (i + 1) stays) moving
-next-fixed p values stays moving i attr s within is same fixed are =
-    one-more p values stays moving i s within is (moving_skip p values (take i stays) moving s (subst (λ (a : ℕ). IsAmbiguous p a → ⊥) same fixed) are)
+pub next_held : (l here : Layout) (attrs : List ℕ) (i : ℕ) → here ≡ l → All (HasStay l.problem.stays) attrs → i < length attrs → HasStay here.problem.stays (get_or attrs i 0)
+next_held l here attrs i same held within = subst (λ (k : Layout). HasStay k.problem.stays (get_or attrs i 0)) (sym same) (held i 0 within)
 
-next-moves : (p : Problem) (values : List (ℕ × Fraction)) (stays : List Stay) (moving new : List (ℕ × Fraction)) (i attr : ℕ) (s : Stay) (f : Fraction) → AllPairs (λ a b. a.attr < b.attr) stays → i < length stays → s ≡ get_or stays i s → attr ≡ s.attr
-    → IsAnswer p attr (value_of values attr) (Moves f) → new ≡ moving ++ (attr, f) ∷ [] → AreMoving p values (take i stays) moving → AreMoving p values (take (i + 1) stays) new
-next-moves p values stays moving new i attr s f rising within is same answer e are =
-    one-more p values stays new i s within is
-    (moving_push p values (take i stays) moving new s f (lesser-before stays i s rising within is)
-    (subst (λ (a : ℕ). IsAnswer p a (value_of values a) (Moves f)) same answer)
-    (e ∙ ap (λ (a : ℕ). moving ++ (a, f) ∷ []) same) are)
+-- ---- all of them
 
-next-answered : (p : Problem) (values : List (ℕ × Fraction)) (stays : List Stay) (moving new : List (ℕ × Fraction)) (i attr : ℕ) (s : Stay) (answer : Answer) → AllPairs (λ a b. a.attr < b.attr) stays → i < length stays → s ≡ get_or stays i s → attr ≡ s.attr
-    → IsAnswer p attr (value_of values attr) answer → new ≡ moving ++ listed attr answer → AreMoving p values (take i stays) moving → AreMoving p values (take (i + 1) stays) new
-next-answered p values stays moving new i attr s Fixed rising within is same fixed e are =
-    subst (AreMoving p values (take (i + 1) stays)) (sym (e ∙ append-nil moving)) (next-fixed p values stays moving i attr s within is same fixed are)
-next-answered p values stays moving new i attr s (Moves f) rising within is same answer e are = next-moves p values stays moving new i attr s f rising within is same answer e are
+-- an attribute that has a stay can be probed
+pub can_of : (l : Layout) (attr : ℕ) → CanProbeAll l → HasStay l.problem.stays attr → CanProbe l attr
+can_of l attr can (i, s, within, is, same) = subst (CanProbe l) (ap (λ (t : Stay). t.attr) is ∙ same) (can i s within)
 
--- by the stay that is read
-pub next_listed : (p : Problem) (values : List (ℕ × Fraction)) (stays read : List Stay) (moving new : List (ℕ × Fraction)) (i : ℕ) (s : Stay) (answer : Answer) → AllPairs (λ a b. a.attr < b.attr) stays → i < length stays → read ≡ stays
-    → IsAnswer p (get_or read i s).attr (value_of values (get_or read i s).attr) answer → new ≡ moving ++ listed (get_or read i s).attr answer → AreMoving p values (take i stays) moving → AreMoving p values (take (i + 1) stays) new
-next_listed p values stays read moving new i s answer rising within same is e are =
-    next-answered p values stays moving new i (get_or read i s).attr (get_or stays i s) answer rising within (get_or_default stays i s (get_or stays i s) within)
-    (ap (λ (ss : List Stay). (get_or ss i s).attr) same) is e are
+-- those that move among the stays' numbers are those among the stays
+pub moving_of : (p : Problem) (values : List (ℕ × Fraction)) (attrs : List ℕ) (moving : List (ℕ × Fraction)) → AreNumbersOf p.stays attrs → AreMovingAmong p values attrs moving → AreMoving p values p.stays moving
+moving_of p values attrs moving are_all are = record {
+  answers = are.answers;
+  among = All-weaker (λ m. Contains attrs m.0) (λ m. HasStay p.stays m.0) (λ m. (are_all.same m.0).0) moving are.among;
+  rising = are.rising;
+  all = λ i s within. All-contains (λ a. All (λ m. m.0 ≢ a) moving → IsAmbiguous p a → ⊥) attrs (get_or p.stays i s).attr are.all ((are_all.same (get_or p.stays i s).attr).1 (i, get_or p.stays i s, within, get_or_default p.stays i (get_or p.stays i s) s within, refl));
+}
 
-pub can_next : (l : Layout) (read : List Stay) (i : ℕ) (s : Stay) → CanProbeAll l → i < length l.problem.stays → read ≡ l.problem.stays → CanProbe l (get_or read i s).attr
-can_next l read i s can within same = subst (λ (ss : List Stay). CanProbe l (get_or ss i s).attr) (sym same) (can i s within)
+-- all have been read
+pub all_attributes : (stays : List Stay) (attrs : List ℕ) (i : ℕ) → length stays ≤ i → attrs ≡ map (λ s. s.attr) (take i stays) → attrs ≡ map (λ s. s.attr) stays
+all_attributes stays attrs i past are = are ∙ ap (λ (ss : List Stay). map (λ s. s.attr) ss) (take_all i stays past)
+
+-- the stays' attributes, sorted, are their numbers
+pub sorted_numbers : (stays : List Stay) (listed_all numbers : List ℕ) → AllPairs (λ s t. s.attr ≢ t.attr) stays → listed_all ≡ map (λ s. s.attr) stays → IsPermutation listed_all numbers → IsSorted nat_cmp numbers → AreNumbersOf stays numbers
+sorted_numbers stays all numbers apart are permuted sorted =
+    let same : IsPermutation (map (λ (s : Stay). s.attr) stays) numbers = subst (λ (ns : List ℕ). IsPermutation ns numbers) are permuted in
+    record {
+      rising = numbers_rise stays numbers same apart sorted;
+      same = λ a. (All-contains (HasStay stays) numbers a (numbers_held stays numbers same), held_there stays numbers same a);
+    }
+
+pub numbers_all : (stays : List Stay) (numbers : List ℕ) → AreNumbersOf stays numbers → All (HasStay stays) numbers
+numbers_all stays numbers are k d within = (are.same (get_or numbers k d)).0 (Contains-get_or numbers k d within)

@@ -1,10 +1,10 @@
 -- Probes: the row that is added, what is answered, and why a probe stops.
 use Rattle.std.specs.Prelude.{◌≡◌, ℕ, ◌+◌, ◌<◌, Bool, true, false, List, [], ◌∷◌, length, ℤ, pos, ◌+ℤ◌}
-use Rattle.std.specs.Prelude.{◌≢◌, ◌-ℤ◌, ◌*ℤ◌, All, AllPairs}
+use Rattle.std.specs.Prelude.{◌≢◌, ◌↔◌, ◌-ℤ◌, ◌*ℤ◌, All, AllPairs, Contains}
+use Rattle.problem_core.specs.declared.parts.Stay.{Stay}
 use Rattle.frac_core.specs.Fraction.{Fraction, IsKept, IsLowest, IsUnfitRatio}
 use Rattle.problem_core.specs.declared.limits.TheConstants.{NUMBER_LIMIT, ROW_LIMIT}
 use Rattle.problem_core.specs.declared.parts.Rel.TheVariants.{Eq}
-use Rattle.problem_core.specs.declared.parts.Stay.{Stay}
 use Rattle.problem_core.specs.Layout.{HasStay, Problem, Row}
 use Rattle.problem_core.specs.Kept.{IsWhole}
 use Rattle.problem_core.specs.Gaps.{value_of}
@@ -14,6 +14,7 @@ use Rattle.cert_core.specs.declared.stops.RunStop.TheVariants as run
 use Rattle.version_list.specs.declared.TheConstants.{VERSION_LIMIT}
 use Rattle.corner.specs.Changes.{FromAdded}
 use Rattle.layout_solver.specs.Layouts.{IsBestValue, Layout, with_added}
+pub use Rattle.layout_solver.specs.Keeping.{NoConflict}
 use Rattle.diagnosis.specs.declared.probing.Answer.{Answer}
 use Rattle.diagnosis.specs.declared.probing.Answer.TheVariants.{Fixed, Moves}
 use Rattle.diagnosis.specs.declared.probing.DiagnoseStop.{DiagnoseStop}
@@ -81,13 +82,6 @@ IsTried l attr up value = (f : Fraction) × IsBeside up (value_of l.values attr)
 
 -- ---- stops
 
--- a run's stop that is no conflict
-abbrev pub NoConflict : RunStop → Type 0
-NoConflict (run.Conflict by) = ⊥
-NoConflict (run.Unfit at) = Unit {0}
-NoConflict (run.Spent path) = Unit {0}
-NoConflict run.OutOfMemory = Unit {0}
-
 -- a run's stop as a probe's
 abbrev pub turned : Bool → RunStop → DiagnoseStop
 turned up (run.Conflict by) = OutOfMemory
@@ -131,6 +125,19 @@ pub record AreMoving (p : Problem) (values : List (ℕ × Fraction)) (stays : Li
   pub among : All (λ m. HasStay stays m.0) moving
   pub rising : AllPairs (λ m n. m.0 < n.0) moving
   pub all : All (λ s. All (λ m. m.0 ≢ s.attr) moving → IsAmbiguous p s.attr → ⊥) stays
+
+-- the attributes are those of these stays, by number
+pub record AreNumbersOf (stays : List Stay) (attrs : List ℕ) : Type 0 where
+  pub rising : AllPairs (λ a b. a < b) attrs
+  pub same : (attr : ℕ) → Contains attrs attr ↔ HasStay stays attr
+
+-- the same of attributes
+pub record AreMovingAmong (p : Problem) (values : List (ℕ × Fraction)) (attrs : List ℕ)
+    (moving : List (ℕ × Fraction)) : Type 0 where
+  pub answers : All (λ m. IsAnswer p m.0 (value_of values m.0) (Moves m.1)) moving
+  pub among : All (λ m. Contains attrs m.0) moving
+  pub rising : AllPairs (λ m n. m.0 < n.0) moving
+  pub all : All (λ a. All (λ m. m.0 ≢ a) moving → IsAmbiguous p a → ⊥) attrs
 
 -- what an answer adds to such a list
 abbrev pub listed : ℕ → Answer → List (ℕ × Fraction)

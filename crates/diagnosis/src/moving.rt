@@ -1,10 +1,13 @@
 // The attributes that move.
-ghost use Rattle.std.specs.Prelude.{◌≡◌, ◌<◌, ◌+◌, ◌++◌, length, take, IfOk, IfErr};
-ghost use Rattle.diagnosis.specs.Probes.{AreMoving, CanProbeAll, IsStopAt, listed};
+ghost use Rattle.std.specs.Prelude.{◌≡◌, ◌≢◌, ◌<◌, ◌++◌, ◌∷◌, [], ℕ, List, All, AllPairs, IfOk, IfErr};
+ghost use Rattle.problem_core.specs.Layout.{HasStay};
+ghost use Rattle.diagnosis.specs.Probes.{AreMoving, AreMovingAmong, AreNumbersOf, CanProbeAll, IsStopAt};
+ghost use Rattle.diagnosis.specs.Probes.{listed};
 
 use crate::probing::{Answer, DiagnoseStop, Stopped, ambiguous};
 use frac_core::{Frac, OutOfMemory};
 use layout_solver::Engine;
+use problem_core::Stay;
 use std::alloc::Global;
 
 // Appends an attribute that moves, with the value that it reaches.
@@ -20,24 +23,36 @@ fn push_answer(out: &mut Vec<(u32, Frac)>, attr: u32, answer: Answer) -> Result<
     }
 }
 
-// Appends the attribute of a stay, where it moves, with the value that it reaches.
+// The attributes of the stays, by number.
+fn numbers_of(alloc: Global, stays: &[Stay]) -> Result<Vec<u32>, OutOfMemory>
+    requires { AllPairs (λ s t. s.attr ≢ t.attr) stays.now }
+    ensures { IfOk result (λ attrs. AreNumbersOf stays.now attrs.items) }
+{
+    let mut attrs = Vec::with_capacity(alloc, stays.len())?;
+    for stay in stays {
+        attrs.push(stay.attr)?;
+    }
+    attrs.sort_unstable();
+    Ok(attrs)
+}
+
+// Appends the attribute, where it moves, with the value that it reaches.
 fn push_moving(
     alloc: Global,
     out: &mut Vec<(u32, Frac)>,
     e: &mut Engine,
-    at: usize,
+    attr: u32,
     budget: u64,
 ) -> Result<(), Stopped>
     requires can { CanProbeAll e.old }
-    requires within { at < length e.old.problem.stays }
-    ensures moving { IfOk result (λ _.
-        AreMoving e.old.problem e.old.values (take at e.old.problem.stays) out.old.items
-        → AreMoving e.old.problem e.old.values (take (at + 1) e.old.problem.stays) out.new.items) }
+    requires held { HasStay e.old.problem.stays attr }
+    ensures moving { IfOk result (λ _. (attrs : List ℕ) → All (λ a. a < attr) attrs
+        → AreMovingAmong e.old.problem e.old.values attrs out.old.items
+        → AreMovingAmong e.old.problem e.old.values (attrs ++ attr ∷ []) out.new.items) }
     ensures stop { IfErr result (λ s. IsStopAt e.old budget s.attr s.stop) }
     ensures same { e.new ≡ e.old }
 {
     e.show_layout(); // for the proof: what an engine keeps
-    let attr = e.stays()[at].attr;
     match ambiguous(alloc, e, attr, budget) {
         Ok(answer) => match push_answer(out, attr, answer) {
             Ok(()) => Ok(()),
@@ -50,10 +65,31 @@ fn push_moving(
     }
 }
 
+// Of these attributes those that move, by number.
+fn moving_among(
+    alloc: Global,
+    e: &mut Engine,
+    attrs: &[u32],
+    budget: u64,
+) -> Result<Vec<(u32, Frac)>, Stopped>
+    requires can { CanProbeAll e.old }
+    requires held { All (HasStay e.old.problem.stays) attrs.now }
+    requires rising { AllPairs (λ a b. a < b) attrs.now }
+    ensures moving { IfOk result (λ out. AreMovingAmong e.old.problem e.old.values attrs.now out.items) }
+    ensures stop { IfErr result (λ s. IsStopAt e.old budget s.attr s.stop) }
+    ensures same { e.new ≡ e.old }
+{
+    let mut out = Vec::new(alloc);
+    for attr in attrs {
+        push_moving(alloc, &mut out, e, *attr, budget)?;
+    }
+    Ok(out)
+}
+
 /// The attributes that move among the assignments that are best without the stays, by number, each with the
 /// value that it reaches, as [`ambiguous`] answers. The engine is as before.
 ///
-/// A stop comes with the number of the attribute whose probe stopped. Those before it were probed.
+/// A stop comes with the number of the attribute whose probe stopped. Those of lower numbers were probed.
 pub fn all_ambiguous(
     alloc: Global,
     e: &mut Engine,
@@ -65,9 +101,7 @@ pub fn all_ambiguous(
     ensures stop { IfErr result (λ s. IsStopAt e.old budget s.attr s.stop) }
     ensures same { e.new ≡ e.old }
 {
-    let mut out = Vec::new(alloc);
-    for at in 0..e.stays().len() {
-        push_moving(alloc, &mut out, e, at, budget)?;
-    }
-    Ok(out)
+    e.show_layout(); // for the proof: what an engine keeps
+    let attrs = numbers_of(alloc, e.stays())?;
+    moving_among(alloc, e, &attrs, budget)
 }

@@ -6,3 +6,4 @@ pub mod Marks
 pub mod Removals
 pub mod Suggestions
 pub mod Views
+pub mod Permuted

@@ -2,6 +2,7 @@
 use Rattle.std.specs.Prelude.{◌≡◌, ◌⊎◌, Some, ℕ, zero, suc, ◌+◌, ◌<◌, ◌≤◌, List, [], ◌∷◌, ◌++◌}
 use Rattle.std.specs.Prelude.{length, map, All, AllPairs}
 use Rattle.std.specs.List.{Contains}
+use Rattle.std.specs.List.Sorted.{IsPermutation}
 use Rattle.problem_core.specs.Kept.{IsRow}
 use Rattle.problem_core.specs.Layout.{Row, Problem}
 use Rattle.view_tree.specs.declared.limits.TheConstants.{ID_LIMIT, VIEW_LIMIT}
@@ -70,10 +71,10 @@ pub record IsGrown (old new : List LiveView) (id count : ℕ) : Type 0 where
   pub few : length new ≤ VIEW_LIMIT
   pub small : id + count ≤ ID_LIMIT
 
--- the stays are those of the views' attributes, and the rows, which aren't too many, have numbers below the
--- next one and ranks above 0
+-- the stays are those of the views' attributes, in any order, and the rows, which aren't too many, have
+-- numbers below the next one and ranks above 0
 pub record IsCounted (views : List LiveView) (next_row : ℕ) (problem : Problem) : Type 0 where
-  pub stays : map (λ s. s.attr) problem.stays ≡ all_attributes views
+  pub stays : IsPermutation (all_attributes views) (map (λ s. s.attr) problem.stays)
   pub below : All (λ r. r.id < next_row) problem.rows
   pub ranks : All (λ r. 0 < r.rank) problem.rows
   pub few : length problem.rows ≤ MOST_ROWS

@@ -28,7 +28,7 @@ use Rattle.session_undo.specs.Explaining.{Explains, SaidStep, WhyStep}
 use Rattle.session_undo.proofs.Commands.Carried.{caused}
 use Rattle.layout_solver.specs.declared.removing.RemoveStop.{RemoveStop}
 use Rattle.layout_solver.specs.declared.removing.RemoveStop.TheVariants as removal
-use Rattle.session_undo.specs.Machine.{Diagnoses, Accepts, LeavesFree, Sizes, Solves, SolvesFree, Stands, Suggests, TellsStill, TriedDrop, TriedRelease, TriedRemove, TriedSize, TriedSuggest, TriedUnsize, MeaningStep, TriedView, TriedTree, TriedMetric, TriedWindow, TriedLine, TriedBudget, TriedUndo, UnlessFar, Ends, Keeps, Tried, parent_name, still_place}
+use Rattle.session_undo.specs.Machine.{Diagnoses, Accepts, LeavesFree, Sizes, Solves, SolvesFree, Stands, Suggests, TellsStill, TriedDrop, TriedKeep, TriedRelease, TriedRemove, TriedSize, TriedSuggest, TriedUnsize, MeaningStep, TriedView, TriedTree, TriedMetric, TriedWindow, TriedLine, TriedBudget, TriedUndo, UnlessFar, Ends, Keeps, Tried, parent_name, still_place}
 use Rattle.layout_cli.specs.Machine.{GrammarStep, Step, Run}
 
 kept : (old new : State) → IsBestState old → new ≡ old → IsBestState new
@@ -139,6 +139,9 @@ module _ (old : State) (reply : Reply) (new : State) where
   unsize-change : (name : List ℕ) → TriedUnsize old name (LeavesFree old) reply new → MaySay old reply new
   unsize-change name = past (Unknown name) refl (λ (view, named, rest). past (Unknown (intrinsic_name name)) refl (leaves-change _) rest)
 
+  keep-change : (name : List ℕ) → TriedKeep old name (SolvesFree old) reply new → MaySay old reply new
+  keep-change name = past (Unknown name) refl (λ (view, named, end). free-change _ end)
+
   view-change : (name parent : List ℕ) → TriedView old name parent (SolvesFree old) reply new → MaySay old reply new
   view-change name parent =
       past (Unknown parent) refl (past (Taken name) refl (past (Limit word.Name) refl (past (Limit word.Views) refl (past (Limit word.Depth) refl (past (Limit word.Rows) refl
@@ -209,6 +212,7 @@ module _ (old : State) (reply : Reply) (new : State) where
   meaning-says (mean.Turn to) some step = stands-change _ step
   meaning-says (mean.Size name width height hug resist) some step = size-change name width height hug resist step
   meaning-says (mean.Unsize name) some step = unsize-change name step
+  meaning-says (mean.Keep name) some step = keep-change name step
 
 -- ---- lines
 
@@ -234,6 +238,7 @@ blank_or mean.Diagnose = inr refl
 blank_or (mean.Turn to) = inr refl
 blank_or (mean.Size name width height hug resist) = inr refl
 blank_or (mean.Unsize name) = inr refl
+blank_or (mean.Keep name) = inr refl
 
 -- what asks why gets some reply
 pub why-says : (old : State) (reply : Reply) (new : State) (m : Meaning) → WhyStep old m reply new → MaySay old reply new

@@ -100,6 +100,9 @@ size_never len = name_never mean.Nothing (λ n. Number (High n)) (λ n. number_n
 unsize_never : (len : ℕ) → Never mean.Nothing (Arguments len key.Unsize)
 unsize_never len = name_never mean.Nothing (λ n. End (mean.Unsize n)) (λ n. end_never (mean.Unsize n) refl)
 
+keep_never : (len : ℕ) → Never mean.Nothing (Arguments len key.Keep)
+keep_never len = name_never mean.Nothing (λ n. End (mean.Keep n)) (λ n. end_never (mean.Keep n) refl)
+
 -- ---- what a line says
 
 abbrev meaning_of : Said → Meaning
@@ -127,7 +130,8 @@ unfolding new_change_words
 new_never len s (inl (t, is, h)) = apart_never says_nothing (Follows len (first.Command key.Direction)) (follows_never len key.Direction (direction_never len)) t h
 new_never len s (inr (inl (t, is, h))) = apart_never says_nothing (Follows len (first.Command key.Size)) (follows_never len key.Size (size_never len)) t h
 new_never len s (inr (inr (inl (t, is, h)))) = apart_never says_nothing (Follows len (first.Command key.Unsize)) (follows_never len key.Unsize (unsize_never len)) t h
-new_never len s (inr (inr (inr never))) = never
+new_never len s (inr (inr (inr (inl (t, is, h))))) = apart_never says_nothing (Follows len (first.Command key.Keep)) (follows_never len key.Keep (keep_never len)) t h
+new_never len s (inr (inr (inr (inr never)))) = never
 
 -- a line of version 1 says the same in each version
 pub line_later : (v : Version) (line : List ℕ) (said : Said) → Line (words_of version.One) line said → Line (words_of v) line said

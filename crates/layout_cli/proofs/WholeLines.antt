@@ -7,7 +7,7 @@ use Rattle.claim_writing.specs.PathTexts.{path_lines, path_text, unfit_line, unf
 use Rattle.claim_writing.specs.Words as words
 use Rattle.claim_writing.specs.declared.claim.Claim.TheVariants.{IsBest, IsConflict}
 use Rattle.view_tree.specs.Views.{LiveView}
-use Rattle.scenes.specs.Scene.{Scene, problem_of}
+use Rattle.scenes.specs.Scene.{Scene, problem_of, values_by_number}
 use Rattle.session_undo.specs.Replies.{Reply, Nothing, Done, Frames, Rows, Certificate, Core, Diagnosed, Solvable, Outside, Unknown, Taken, Limit, Kind, Conflict, NoEarlier, Overflow, Spent, NoTarget, Place, Step, Still, Probe, Held}
 use Rattle.session_undo.specs.State.{State}
 use Rattle.reply_texts.specs.Cores.{core_lines, id_line}
@@ -75,7 +75,7 @@ reply_whole scene Rows =
     inr (before (flat_map name_lines scene.tree.views) (problem ++ line_of (codes "ok")) (before problem (line_of (codes "ok")) (ended (codes "ok"))))
 reply_whole scene (Certificate levels) =
     let problem : List ℕ = problem_text (problem_of scene) in
-    let claim : List ℕ = claim_text (IsBest scene.values levels) in
+    let claim : List ℕ = claim_text (IsBest (values_by_number scene) levels) in
     inr (before (flat_map name_lines scene.tree.views) (problem ++ (claim ++ line_of (codes "ok")))
     (before problem (claim ++ line_of (codes "ok")) (before claim (line_of (codes "ok")) (ended (codes "ok")))))
 reply_whole scene (Diagnosed findings) = then_ok (findings_text scene.tree.views findings)

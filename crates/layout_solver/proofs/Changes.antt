@@ -6,7 +6,7 @@ use Rattle.frac_core.specs.Fraction.{Fraction}
 use Rattle.problem_core.specs.declared.parts.Mark.{Mark}
 use Rattle.problem_core.specs.declared.parts.Stay.{Stay}
 use Rattle.problem_core.specs.Layout.{HasStay, Problem, Row}
-use Rattle.problem_core.specs.Kept.{AreRising, IsWhole}
+use Rattle.problem_core.specs.Kept.{IsWhole}
 use Rattle.problem_core.specs.Corners.{NoNegativeColumn, NoNegativeValue}
 use Rattle.cert_core.specs.Paths.{Path}
 use Rattle.cert_core.specs.Stops.{IsStopOf}
@@ -22,7 +22,7 @@ use Rattle.layout_solver.specs.Starts.{CanTake, IsMoved, attrs_of}
 use Rattle.layout_solver.specs.ValuesUnique.{values_are_one}
 use Rattle.layout_solver.proofs.Earlier.{earlier_length, forgot_kept, kept_cons, same_solutions}
 use Rattle.layout_solver.proofs.Starts.Rooms.{added_room}
-use Rattle.layout_solver.proofs.Solved.{changed_rising, moved_is, solved_end, solved_values, these_values}
+use Rattle.layout_solver.proofs.Solved.{moved_is, solved_end, solved_values, these_values}
 use Rattle.layout_solver.proofs.Values.{values_exist}
 use Rattle.layout_solver.proofs.Shifts.ShiftedProblems.{head-of}
 
@@ -153,9 +153,6 @@ module _ (c mid : CornerView) (v : List (ℕ × Fraction)) (past : HaveValues c.
   pub shifted_is : (to : List Change) (p : Problem) → IsMoved mid [] (shifted to mid.problem.rows) p → p ≡ with_shifts l to
   shifted_is to p h = stays-are [] (shifted to mid.problem.rows) p h ∙ sym (shifted-made to)
 
-  pub shifted_rising : AreRising (l.values ++ zeros [])
-  shifted_rising = subst AreRising (ap (λ (k : Layout). k.values) m.view ∙ sym (append-nil l.values)) m.solved.kept.rising
-
   pub shifted_path : (to : List Change) (budget : ℕ) (last : List Mark)
       → ((p : Problem) → IsMoved mid [] (shifted to mid.problem.rows) p → (path : Path) × IsRun true p (FromHere mid.marks []) budget last path)
       → (path : Path) × IsRun true (with_shifts l to) (FromHere l.corner []) budget last path
@@ -197,12 +194,11 @@ module _ (c mid : CornerView) (v : List (ℕ × Fraction)) (past : HaveValues c.
         subst (All IsKeptSolution) (sym (changed-same rest))
         (kept_cons (solution_at (scene_of c) v) (solutions_at c.before past) m.solved.kept m.solved.earlier)
 
-    pub changed_solved : (attrs : List ℕ) (base : List Row) (w : List (ℕ × Fraction)) (rest : HaveValues end.before) → AreRising (l.values ++ zeros attrs) → IsMoved mid attrs base end.problem → IsBestEnd end.problem end.marks → end.candidates ≡ []
+    pub changed_solved : (attrs : List ℕ) (base : List Row) (w : List (ℕ × Fraction)) (rest : HaveValues end.before) → IsMoved mid attrs base end.problem → IsBestEnd end.problem end.marks → end.candidates ≡ []
         → IsKeptCorner end.problem end.marks → ∥ AreItsValues (scene_of end) w ∥₁ → IsSolved end w rest
-    changed_solved attrs base w rest rising moved best listed kept h =
+    changed_solved attrs base w rest moved best listed kept h =
         let values = these_values end kept.corner w h in
         solved_end end w rest kept best values
-        (changed_rising end.problem end.problem base (l.values ++ zeros attrs) w (stays-are attrs base end.problem moved) values.attributes rising)
         (changed_kept rest) listed
 
   pub changed_path : (attrs : List ℕ) (rows : List Row) (budget : ℕ) (last : List Mark)

@@ -9,3 +9,10 @@ pub mod Removals
 pub mod Standing
 pub mod Shown
 pub mod BestValues
+pub mod ApartValues
+pub mod SortedNumbers
+pub mod StayNumbers
+pub mod UniqueBest
+pub mod AtTargets
+pub mod Reordered
+pub mod KeptOrders

@@ -5,18 +5,17 @@ use Rattle.std.proofs.lemmas.List.Elements.{All-from_recursion}
 use Rattle.std.specs.Coded.{Coded-set}
 use Rattle.frac_core.specs.Fraction.{Fraction}
 use Rattle.problem_core.specs.Layout.{Problem, Row}
-use Rattle.problem_core.specs.Kept.{AreRising}
 use Rattle.problem_core.specs.Corners.{IsCorner}
 use Rattle.corner.specs.Views.{CornerView, IsKeptCorner, Scene}
 use Rattle.corner.specs.Changes.{scene_of}
 use Rattle.corner_ends.specs.Runs.{IsBestEnd}
 use Rattle.layout_solver.specs.Layouts.{IsKeptSolution, Solution, stays_at, zeros}
 use Rattle.layout_solver.specs.Engines.{AreItsValues, HaveValues, IsSolved, layout_of, solutions_at}
-use Rattle.layout_solver.specs.Starts.{IsMoved, attrs_of}
+use Rattle.layout_solver.specs.Starts.{IsMoved}
 use Rattle.layout_solver.specs.ValuesUnique.{values_are_one, values_code}
 use Rattle.layout_solver.proofs.Earlier.{same_solutions}
 use Rattle.layout_solver.proofs.Starts.MovedProblems.{its_values}
-use Rattle.layout_solver.proofs.Starts.Rooms.{stays_rising}
+use Rattle.layout_solver.proofs.Starts.Rooms.{values_apart}
 use Rattle.layout_solver.proofs.Values.{best_there, values_exist, values_fit}
 
 -- the values that a corner is said to have are its values
@@ -26,10 +25,10 @@ these_values c corner v h =
     subst (AreItsValues (scene_of c)) (sym (∥∥₁_elim h (Coded-set values_code v w.0) (λ t. values_are_one (scene_of c) v w.0 t w.1))) w.1
 
 -- a best end of which no line is listed
-pub solved_end : (c : CornerView) (v : List (ℕ × Fraction)) (past : HaveValues c.before) → IsKeptCorner c.problem c.marks → IsBestEnd c.problem c.marks → AreItsValues (scene_of c) v → AreRising v → All IsKeptSolution (solutions_at c.before past) → c.candidates ≡ []
+pub solved_end : (c : CornerView) (v : List (ℕ × Fraction)) (past : HaveValues c.before) → IsKeptCorner c.problem c.marks → IsBestEnd c.problem c.marks → AreItsValues (scene_of c) v → All IsKeptSolution (solutions_at c.before past) → c.candidates ≡ []
     → IsSolved c v past
-solved_end c v past kept end values rising earlier listed = record {
-  kept = record { best = best_there c v values kept.whole end; fit = values_fit c v values kept; rising = rising; corner = kept; values = values.stand; end = end };
+solved_end c v past kept end values earlier listed = record {
+  kept = record { best = best_there c v values kept.whole end; fit = values_fit c v values kept; apart = values_apart c.problem v kept.whole values.attributes; corner = kept; values = values.stand; end = end };
   earlier = earlier;
   listed = listed;
 }
@@ -43,19 +42,12 @@ solved_values c v past s = record { corner = s.kept.corner.corner; attributes = 
 abbrev none-corner : CornerView
 none-corner = record { problem = record { rows = []; stays = [] }; marks = []; before = []; candidates = []; order = [] }
 
-no-pairs : AreRising []
-no-pairs = λ i j d lt within. absurd (omega (arith, within))
-
 none-end : IsBestEnd (record { rows = []; stays = [] }) []
 none-end = record {
   values = (record { num = λ v. pos 1; positive = omega arith }, ((λ k d within. absurd (omega (arith, within))), (λ k d within. absurd (omega (arith, within)))), λ k d within. absurd (omega (arith, within)));
   columns = (record { scale = λ k. 1; times = λ k name. pos 0 }, record { scales = λ k. omega arith; cancel = λ k v. refl; inside_zero = λ side k d within. absurd (omega (arith, within)) }, λ side k d within. absurd (omega (arith, within)));
   required = λ h. absurd h.2.lt;
 }
-
-values-none : (v : List (ℕ × Fraction)) → map (λ w. w.0) v ≡ [] → AreRising v
-values-none [] e = no-pairs
-values-none (w ∷ v) e = cc
 
 no-values : (v : List (ℕ × Fraction)) → map (λ w. w.0) v ≡ [] → v ≡ []
 no-values [] e = refl
@@ -85,15 +77,11 @@ module _ (c : CornerView) (v : List (ℕ × Fraction)) (past : HaveValues c.befo
 
   pub none_solved : IsSolved c v past
   none_solved =
-      solved_end c v past kept (subst (λ (d : CornerView). IsBestEnd d.problem d.marks) (sym e) none-end) none-values (values-none v none-attributes)
+      solved_end c v past kept (subst (λ (d : CornerView). IsBestEnd d.problem d.marks) (sym e) none-end) none-values
       (subst (All IsKeptSolution) (sym none-solutions) (All-from_recursion IsKeptSolution [] tt))
       (ap (λ (d : CornerView). d.candidates) e)
 
 -- ---- after a change
-
--- the problem has the stays of the new problem
-pub changed_rising : (p q : Problem) (rows : List Row) (values new : List (ℕ × Fraction)) → p ≡ record { rows = rows; stays = stays_at values } → map (λ v. v.0) new ≡ attrs_of p → AreRising values → AreRising new
-changed_rising p q rows values new e is h = stays_rising values new p (ap (λ (r : Problem). r.stays) e) is h
 
 -- the moved problem is that of the layout
 pub moved_is : (c : CornerView) (v : List (ℕ × Fraction)) (past : HaveValues c.before) (attrs : List ℕ) (rows : List Row) (p : Problem) → IsSolved c v past → IsMoved c attrs rows p → p ≡ record { rows = rows; stays = stays_at (v ++ zeros attrs) }

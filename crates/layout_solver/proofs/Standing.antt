@@ -1,5 +1,5 @@
 -- An engine's corner from its mark to where the stays stand at the values.
-use Rattle.std.proofs.Common.{◌≡◌, ◌∙◌, ℕ, List, [], ◌∷◌, map, pos, ◌≤ℤ◌, sym, ap, subst, arith, All}
+use Rattle.std.proofs.Common.{◌≡◌, ◌∙◌, ℕ, List, [], map, pos, ◌≤ℤ◌, sym, ap, subst, arith, All}
 use Rattle.std.proofs.lemmas.List.Elements.{All-from_recursion, recursion_from_All}
 use Rattle.frac_core.specs.Fraction.{Fraction, IsLowest}
 use Rattle.problem_core.specs.declared.parts.Mark.{Mark}
@@ -22,7 +22,7 @@ use Rattle.layout_solver.specs.Removals.{stood}
 use Rattle.layout_solver.specs.Starts.{IsMoved}
 use Rattle.layout_solver.specs.ValuesUnique.{values_are_one}
 use Rattle.layout_solver.proofs.BestValues.{attrs-at}
-use Rattle.layout_solver.proofs.Changes.{IsMarked, changed_solved, marked_columns, marked_values, shifted_is, shifted_rising, there_marks}
+use Rattle.layout_solver.proofs.Changes.{IsMarked, changed_solved, marked_columns, marked_values, shifted_is, there_marks}
 use Rattle.layout_solver.proofs.Removals.LeftChanges.{marked_satisfied, stood_satisfied, stood_stands, stood_up}
 use Rattle.layout_solver.proofs.Shifts.Alterations.{stood_problem}
 use Rattle.layout_solver.proofs.Shifts.ShiftedProblems.{columns_stood}
@@ -91,4 +91,4 @@ module _ (c mid : CornerView) (v : List (ℕ × Fraction)) (past : HaveValues c.
 
   pub stood_solved : (before : end.before ≡ mid.before) (w : List (ℕ × Fraction)) (rest : HaveValues end.before) → end.candidates ≡ [] → ∥ AreItsValues (scene_of end) w ∥₁ → IsSolved end w rest
   stood_solved before w rest listed h =
-      changed_solved c mid v past l m end before [] mid.problem.rows w rest (shifted_rising c mid v past l m) moved stood-end listed kept h
+      changed_solved c mid v past l m end before [] mid.problem.rows w rest moved stood-end listed kept h

@@ -1,10 +1,9 @@
 -- A layout: a problem with its best values, those before it, and what it becomes.
-use Rattle.std.specs.Prelude.{◌≡◌, ℕ, List, [], ◌∷◌, ◌++◌, map, All}
+use Rattle.std.specs.Prelude.{◌≡◌, ◌≢◌, ℕ, List, [], ◌∷◌, ◌++◌, map, All, AllPairs}
 use Rattle.frac_core.specs.Fraction.{Fraction, IsKept, IsLowest}
 use Rattle.problem_core.specs.declared.parts.Stay.{Stay}
 use Rattle.problem_core.specs.declared.parts.Mark.{Mark}
 use Rattle.problem_core.specs.Layout.{Row, Problem, Assignment, IsBest, Gives}
-use Rattle.problem_core.specs.Kept.{AreRising}
 use Rattle.problem_core.specs.Window.{zero_fraction}
 use Rattle.problem_core.specs.Corners.{Point, StandsAt, assignment_at, attr_column}
 use Rattle.corner.specs.Views.{HasValueAt, IsKeptCorner}
@@ -38,12 +37,16 @@ solution_of l = record { problem = l.problem; values = l.values; corner = l.corn
 abbrev pub AreValuesAt : Problem → List Mark → List (ℕ × Fraction) → Type 0
 AreValuesAt p at values = All (λ v. HasValueAt p at (attr_column v.0) v.1) values
 
+-- no attribute has two values
+abbrev pub AreApart : List (ℕ × Fraction) → Type 0
+AreApart values = AllPairs (λ u v. u.0 ≢ v.0) values
+
 -- what each solution keeps: the values are best, and stand at a corner without negative values and columns,
 -- at which the required rows cost nothing
 pub record IsKeptSolution (s : Solution) : Type 0 where
   pub best : AreBest s.problem s.values
   pub fit : All (λ v. IsKept v.1) s.values
-  pub rising : AreRising s.values
+  pub apart : AreApart s.values
   pub corner : IsKeptCorner s.problem s.corner
   pub values : AreValuesAt s.problem s.corner s.values
   pub end : IsBestEnd s.problem s.corner

@@ -5,4 +5,5 @@ pub mod Starts
 pub mod Begins
 pub mod Shifts
 pub mod Removals
+pub mod Keeping
 pub mod Instances

@@ -1,11 +1,11 @@
 // The engine: a problem with its best values and the corner where they stand, and earlier ones to go back to.
-ghost use Rattle.std.specs.Prelude.{◌≡◌, ◌<◌, ◌-◌, ◌++◌, ℕ, [], ◌∷◌, true, false, length, take};
+ghost use Rattle.std.specs.Prelude.{◌≡◌, ◌≢◌, ◌<◌, ◌-◌, ℕ, [], ◌∷◌, true, false, length, take};
 ghost use Rattle.std.specs.Prelude.{All, AllPairs, Any, IfOk, IfErr, IfSome, IfNone, OnErr};
 ghost use Rattle.frac_core.specs.Fraction.{IsKept, IsLowest};
 ghost use Rattle.problem_core.specs.Layout.{HasStay, line_of_row};
 ghost use Rattle.problem_core.specs.Levels.{IsLevelAt};
 ghost use Rattle.problem_core.specs.Window.{zero_fraction};
-ghost use Rattle.problem_core.specs.Kept.{IsWhole, AreRising};
+ghost use Rattle.problem_core.specs.Kept.{IsWhole};
 ghost use Rattle.cert_core.specs.Paths as paths;
 ghost use Rattle.cert_core.specs.Stops.{IsStopOf};
 ghost use Rattle.cert_checker.specs.Certifying.{EachGiven};
@@ -15,15 +15,18 @@ ghost use Rattle.certificates.specs.OwnLevels.{IsOwnBest};
 ghost use Rattle.corner.specs.Changes.{FromAdded, scene_of};
 ghost use Rattle.corner_ends.specs.Runs.{FromHere, IsRun};
 ghost use Rattle.version_list.specs.declared.TheConstants.{VERSION_LIMIT};
-ghost use Rattle.layout_solver.specs.Layouts.{AreBest, IsBestValue, IsKeptLayout, IsKeptSolution};
-ghost use Rattle.layout_solver.specs.Layouts.{solution_of, with_added, zeros};
+ghost use Rattle.layout_solver.specs.Layouts.{AreApart, AreBest, IsBestValue, IsKeptLayout};
+ghost use Rattle.layout_solver.specs.Layouts.{IsKeptSolution};
+ghost use Rattle.layout_solver.specs.Layouts.{solution_of, with_added};
 ghost use Rattle.layout_solver.specs.Shifts.{AreKept, CanShift, with_shifts};
+ghost use Rattle.layout_solver.specs.Keeping.{AreAtStays, NoConflict, with_kept};
 ghost use Rattle.layout_solver.specs.Removals.{CanLeave, HasRemoved, IsRemoveStop, stood, with_removed};
 ghost use Rattle.layout_solver.specs.Engines.{HasValues, HaveValues};
 ghost use Rattle.layout_solver.specs.Starts.{HasAdded};
 ghost use Rattle.layout_solver.specs.ValuesUnique.{lists_are_one, one_list};
 
 use crate::changing::extend;
+use crate::keeping::reorder;
 use crate::reading::{has_level, has_stay, row_of};
 use crate::removing::{RemoveStop, shrink};
 use crate::shifting::alter;
@@ -84,7 +87,7 @@ impl Engine {
         ensures whole { IsWhole self.now.problem }
         ensures best { AreBest self.now.problem self.now.values }
         ensures kept { All (λ v. IsKept v.1) self.now.values }
-        ensures rising { AreRising self.now.values }
+        ensures apart { AreApart self.now.values }
         ensures earlier { All IsKeptSolution self.now.earlier }
     {
         let _ = &self.corner; // for the proof: what an engine keeps
@@ -99,7 +102,6 @@ impl Engine {
     pub fn add(&mut self, attrs: &[u32], rows: &[Row], budget: u64) -> Result<(), RunStop>
         requires room { length self.old.earlier < VERSION_LIMIT }
         requires whole { IsWhole (with_added self.old attrs.now rows.now) }
-        requires rising { AreRising (self.old.values ++ zeros attrs.now) }
         ensures done { IfOk result (λ _. self.new.problem ≡ with_added self.old attrs.now rows.now) }
         ensures path { IfOk result (λ _. HasAdded (with_added self.old attrs.now rows.now) self.old.corner
             rows.now budget self.new.corner) }
@@ -201,6 +203,37 @@ impl Engine {
             Err(OutOfMemory) => {
                 self.corner.back();
                 Err(OutOfMemory)
+            }
+        }
+    }
+
+    /// Puts the stays of these attributes, which differ, before all others, with all stays at the present
+    /// values. These are the best ones still, and stay. The path begins at the corner that was kept.
+    ///
+    /// There is no conflict. `Unfit`: a quantity does not fit at the last corner of the path. `Spent`: the
+    /// path has as many exchanges as the budget. After each stop the engine is as before.
+    pub fn keep(&mut self, attrs: &[u32], budget: u64) -> Result<(), RunStop>
+        requires room { length self.old.earlier < VERSION_LIMIT }
+        requires held { All (HasStay self.old.problem.stays) attrs.now }
+        requires apart { AllPairs (λ a b. a ≢ b) attrs.now }
+        ensures done { IfOk result (λ _. self.new.problem ≡ with_kept self.old attrs.now) }
+        ensures values { IfOk result (λ _. AreAtStays self.new) }
+        ensures path { IfOk result (λ _. HasAdded (with_kept self.old attrs.now) self.old.corner [] budget
+            self.new.corner) }
+        ensures stop { IfErr result (IsStopOf false (with_kept self.old attrs.now) self.old.problem.rows
+            (FromAdded (with_kept self.old attrs.now) self.old.corner []) budget) }
+        ensures free { IfErr result NoConflict }
+        ensures earlier { IfOk result (λ _. self.new.earlier ≡ solution_of self.old ∷ self.old.earlier) }
+        ensures same { OnErr result (self.new ≡ self.old) }
+    {
+        self.corner.mark();
+        let result = reorder(self.alloc, &mut self.corner, attrs, budget);
+        self.corner.show_corner(); // for the proof: what a corner keeps
+        match result {
+            Ok(()) => Ok(()),
+            Err(stop) => {
+                self.corner.back();
+                Err(stop)
             }
         }
     }

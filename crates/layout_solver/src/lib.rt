@@ -1,11 +1,12 @@
 //! The engine: a layout problem and its best values, changed step by step, and back.
 //!
 //! An [`Engine`] is a problem, its best values, and the corner at which these stand, with earlier ones.
-//! [`Engine::add`] takes more attributes and rows, [`Engine::remove`] takes some out, and [`Engine::shift`]
-//! gives rows other constants. Each first moves the stays to the present values, so that the attributes stay
-//! where they are as far as the rows let them, and then exchanges marks until the values are best: after
-//! `shift` no column is negative on the way, else no value is. A change that is refused leaves the engine as
-//! it was.
+//! [`Engine::add`] takes more attributes and rows, [`Engine::remove`] takes some out, [`Engine::shift`] gives
+//! rows other constants, and [`Engine::keep`] puts some stays before all others: it moves no value, and in
+//! what follows the attributes of these stays are moved last. Each first moves the stays to the present
+//! values, so that the attributes stay where they are as far as the rows let them, and then exchanges marks
+//! until the values are best: after `shift` no column is negative on the way, else no value is. A change that
+//! is refused leaves the engine as it was.
 //!
 //! A change that is made leaves the layout before it among the earlier ones, of which there may be 33.
 //! [`Engine::back`] goes back to the latest of these, with no memory and no way to fail, and
@@ -16,15 +17,15 @@
 //! ghost fields name them.
 //!
 //! What an [`Engine`] keeps ([`Engine::show_layout`]): the problem is whole; the values are its best ones, in
-//! lowest terms and by rising attribute; they stand at the corner, where no value and no column is negative
-//! and the required rows cost nothing. So it is with each earlier one.
+//! lowest terms and in the order of the stays; they stand at the corner, where no value and no column is
+//! negative and the required rows cost nothing. So it is with each earlier one.
 //!
 //! | Clause | Says |
 //! |---|---|
 //! | `show_layout`: `best` | the values are those of a best assignment; no other list is |
 //! | `done` | after `Ok`, the problem is the one that was asked for |
 //! | `path` | after `Ok`, a lawful path within the budget leads from the kept corner to the engine's corner |
-//! | `stop` | a conflict (`remove` has none) has multipliers that show it; any other stop has a lawful path |
+//! | `stop` | a conflict (`remove` and `keep` have none) has multipliers that show it; any other a lawful path |
 //! | `earlier` | after `Ok`, the layout before is the latest of the earlier ones |
 //! | `same` | after a stop or want of memory, the engine is as before |
 //! | `some`, `none` | the value of an attribute with a stay, and of no other |
@@ -51,14 +52,15 @@
 //! basis, and an exchange of marks is a pivot. `add` and `remove` go on by the primal simplex method from a
 //! feasible basis, `shift` by the dual one from a basis that is dual feasible.
 //!
-//! To read: `reading` finds rows and stays. `changing`, `removing` and `shifting` have the ways of a corner
-//! to the best one of another problem, with more rows, with fewer, or with other constants; `trying` goes
-//! such a way for what an attribute would be. `engine` is what callers use. `laws` has small problems where
-//! a removal stops, and what is no such stop.
+//! To read: `reading` finds rows and stays. `changing`, `removing`, `shifting` and `keeping` have the ways
+//! of a corner to the best one of another problem, with more rows, with fewer, with other constants, or with
+//! another order of stays; `trying` goes such a way for what an attribute would be. `engine` is what callers
+//! use. `laws` has small problems where a removal stops, and what is no such stop.
 #![tactic(auto)]
 
 mod changing;
 mod engine;
+mod keeping;
 mod laws;
 mod reading;
 mod removing;

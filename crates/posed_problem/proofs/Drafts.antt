@@ -21,7 +21,7 @@ use Rattle.held_items.specs.Leaving.{goes_with}
 use Rattle.held_items.specs.declared.item.intrinsic.IntrinsicSize.{IntrinsicSize}
 use Rattle.held_items.specs.declared.row_numbers.TheConstants.{VIEW_ROWS}
 use Rattle.scenes.specs.Leaving.{without_items, without_views}
-use Rattle.scenes.specs.Scene.{Scene, held_with_size, metrics_with, with_branch, with_direction, with_intrinsic, with_line, with_metric, with_preferred, with_suggested, with_suggestion, with_view, with_window}
+use Rattle.scenes.specs.Scene.{Scene, held_with_size, metrics_with, with_branch, with_direction, with_intrinsic, with_kept, with_line, with_metric, with_preferred, with_suggested, with_suggestion, with_view, with_window}
 use Rattle.posed_problem.specs.Definite.{AreDefinite, IsDefinite, IsDefiniteForm, IsDefiniteItem}
 
 -- ---- items
@@ -172,6 +172,9 @@ module _ (old : Scene) (is : IsDefinite old) where
 
   pub turned-definite : (to : Direction) → IsDefinite (with_direction old to)
   turned-definite to = record { metrics = is.metrics; held = is.held; below = is.below; older = is.older }
+
+  pub kept-definite : (view : ℕ) → IsDefinite (with_kept old view)
+  kept-definite view = record { metrics = is.metrics; held = is.held; below = is.below; older = is.older }
 
   pub less-definite : (goes : Item → Bool) → IsDefinite (without_items old goes)
   less-definite goes = record { metrics = is.metrics; held = All-filter (λ (x : Item). not (goes x)) IsDefiniteItem old.held is.held; below = is.below; older = is.older }

@@ -7,7 +7,7 @@ use Rattle.view_tree.specs.JsonStops.{GoesIn}
 use Rattle.view_tree.specs.JsonTrees.{IsTreeText, JsonTree}
 use Rattle.view_tree.specs.Views.{LiveView, view_named}
 use Rattle.script_text.specs.Directions.{line_in}
-use Rattle.script_text.specs.Meaning.{Linear, Meaning}
+use Rattle.script_text.specs.Meaning.{Meaning}
 use Rattle.script_text.specs.Meaning as mean
 use Rattle.script_text.specs.declared.words.AttrWord.{AttrWord}
 use Rattle.name_tables.specs.declared.stops.LimitWord.TheVariants as word
@@ -26,8 +26,8 @@ use Rattle.held_items.specs.Items.{intrinsic_name, intrinsic_of, suggestion_name
 use Rattle.held_items.specs.Moving.{FitsAfter}
 use Rattle.held_items.specs.declared.item.intrinsic.IntrinsicSize.{IntrinsicSize}
 use Rattle.scenes.specs.Leaving.{without_group, without_intrinsic, without_suggestion, without_views}
-use Rattle.scenes.specs.Scene.{Scene, with_branch, with_direction, with_intrinsic, with_line, with_metric, with_preferred, with_suggested, with_suggestion, with_view, with_window}
-use Rattle.session_undo.specs.Machine.{AddsBranch, AddsLine, AddsTree, AddsView, DropsView, ReleasesOf, Sizes, SizesFor, Suggests, SuggestsFor, Tried, TriedDrop, TriedLine, TriedMetric, TriedRelease, TriedRemove, TriedSize, TriedSuggest, TriedTree, TriedUnsize, TriedView, TriedWindow, Unless, UnlessFar, UnlessLarge, UnsizesOf, hugging, intrinsic_at, parent_name, resisting}
+use Rattle.scenes.specs.Scene.{Scene, with_branch, with_direction, with_intrinsic, with_kept, with_line, with_metric, with_preferred, with_suggested, with_suggestion, with_view, with_window}
+use Rattle.session_undo.specs.Machine.{AddsBranch, AddsLine, AddsTree, AddsView, DropsView, KeepsOf, ReleasesOf, Sizes, SizesFor, Suggests, SuggestsFor, Tried, TriedDrop, TriedKeep, TriedLine, TriedMetric, TriedRelease, TriedRemove, TriedSize, TriedSuggest, TriedTree, TriedUnsize, TriedView, TriedWindow, Unless, UnlessFar, UnlessLarge, UnsizesOf, hugging, intrinsic_at, parent_name, resisting}
 use Rattle.session_undo.specs.Replies.{Kind, Limit, NoEarlier, Outside, Reply, Taken, Unknown}
 use Rattle.session_undo.specs.State.{State}
 
@@ -62,6 +62,7 @@ Makes old (mean.Release name attr) d = (view : LiveView) × (view_named old.scen
 Makes old (mean.Turn to) d = d ≡ with_direction old.scene to
 Makes old (mean.Size name width height hug resist) d = (view : LiveView) × (hugs resists : ℕ) × (view_named old.scene.tree.views name ≡ Some view) × IsRank old.scene.tree.views old.scene.metrics (hugging hug) hugs × IsRank old.scene.tree.views old.scene.metrics (resisting resist) resists × (d ≡ sized_draft old view.id width height hugs resists (intrinsic_of view.id old.scene.held))
 Makes old (mean.Unsize name) d = (view : LiveView) × (view_named old.scene.tree.views name ≡ Some view) × (d ≡ without_intrinsic old.scene view.id)
+Makes old (mean.Keep name) d = (view : LiveView) × (view_named old.scene.tree.views name ≡ Some view) × (d ≡ with_kept old.scene view.id)
 Makes old _ d = ⊥
 
 -- ---- what a command comes to
@@ -207,6 +208,12 @@ module _ (old : State) (E : Scene → Reply → State → Type 0) (r : Reply) (s
   come-unsize : (name : List ℕ) → TriedUnsize old name E r s → Comes (Makes old (mean.Unsize name))
   come-unsize name = past (Unknown name) refl (come-unsizes name)
 
+  come-keeps : (name : List ℕ) → KeepsOf old name E r s → Comes (Makes old (mean.Keep name))
+  come-keeps name x = likewise (λ d is. (x.0, x.1, is)) (ends (with_kept old.scene x.0.id) x.2)
+
+  come-keep : (name : List ℕ) → TriedKeep old name E r s → Comes (Makes old (mean.Keep name))
+  come-keep name = past (Unknown name) refl (come-keeps name)
+
   pub comes : (m : Meaning) (Other : Reply → State → Reply → State → Type 0) → IsDrafting m → Tried old m E Other r s → Comes (Makes old m)
   comes (mean.View name parent) Other is h = come-view name parent h
   comes (mean.Tree text start) Other is h = come-tree text start h
@@ -226,6 +233,7 @@ module _ (old : State) (E : Scene → Reply → State → Type 0) (r : Reply) (s
   comes (mean.Turn to) Other is h = ends (with_direction old.scene to) h
   comes (mean.Size name width height hug resist) Other is h = come-size name width height hug resist h
   comes (mean.Unsize name) Other is h = come-unsize name h
+  comes (mean.Keep name) Other is h = come-keep name h
   comes mean.Nothing Other is h = absurd is
   comes mean.Undo Other is h = absurd is
   comes (mean.Budget exchanges) Other is h = absurd is

@@ -17,7 +17,7 @@ use Rattle.held_items.specs.Items.{intrinsic_of, is_intrinsic, is_suggestion, su
 use Rattle.held_items.specs.Leaving.{is_in_group}
 use Rattle.held_items.specs.declared.item.intrinsic.IntrinsicSize.{IntrinsicSize}
 use Rattle.scenes.specs.Leaving.{without_intrinsic, without_suggestion, without_views}
-use Rattle.scenes.specs.Scene.{Scene, with_branch, with_line, with_view}
+use Rattle.scenes.specs.Scene.{Scene, with_branch, with_kept, with_line, with_view}
 use Rattle.session_undo.specs.Machine.{hugging, intrinsic_at, parent_name, resisting}
 use Rattle.session_undo.specs.State.{State}
 use Rattle.posed_problem.specs.Definite.{IsDefinite, IsDefiniteMeaning}
@@ -26,7 +26,7 @@ use Rattle.posed_problem.proofs.LineRows.{line-above, line-definite as compiled-
 use Rattle.posed_problem.proofs.FormatRows.{format-definite, one-format}
 use Rattle.posed_problem.proofs.GoingViews.{one-going}
 use Rattle.posed_problem.proofs.Made.{Makes, sized_draft, suggested_draft, suggestion_at}
-use Rattle.posed_problem.proofs.Drafts.{branch-definite, dropped-definite, intrinsic-definite, less-definite, line-definite, metrics-definite, named-below, number-below, preferred-definite, suggested-definite, suggestion-definite, turned-definite, view-definite, window-definite}
+use Rattle.posed_problem.proofs.Drafts.{branch-definite, dropped-definite, intrinsic-definite, kept-definite, less-definite, line-definite, metrics-definite, named-below, number-below, preferred-definite, suggested-definite, suggestion-definite, turned-definite, view-definite, window-definite}
 
 -- a text stands for one tree at most
 one-tree : (text : List ℕ) (t u : JsonTree) → IsTreeText text t → IsTreeText text u → t ≡ u
@@ -91,6 +91,8 @@ module _ (old : State) (definite : IsDefinite old.scene) where
       ∙ sym also
   one-draft (mean.Unsize name) d e ok (v, found, is) (w, found2, also) =
       is ∙ ap (λ (x : LiveView). without_intrinsic old.scene x.id) (one-view old.scene.tree.views name v w found found2) ∙ sym also
+  one-draft (mean.Keep name) d e ok (v, found, is) (w, found2, also) =
+      is ∙ ap (λ (x : LiveView). with_kept old.scene x.id) (one-view old.scene.tree.views name v w found found2) ∙ sym also
   one-draft mean.Nothing d e ok is also = absurd is
   one-draft mean.Undo d e ok is also = absurd is
   one-draft (mean.Budget exchanges) d e ok is also = absurd is
@@ -135,6 +137,7 @@ module _ (old : State) (definite : IsDefinite old.scene) where
   draft-definite (mean.Size name width height hug resist) d ok (v, g, r, found, hugs, resists, is) =
       subst IsDefinite (sym is) (sized-draft-definite v.id width height g r (intrinsic_of v.id old.scene.held))
   draft-definite (mean.Unsize name) d ok (v, found, is) = subst IsDefinite (sym is) (less-definite old.scene definite (is_intrinsic v.id))
+  draft-definite (mean.Keep name) d ok (v, found, is) = subst IsDefinite (sym is) (kept-definite old.scene definite v.id)
   draft-definite mean.Nothing d ok is = absurd is
   draft-definite mean.Undo d ok is = absurd is
   draft-definite (mean.Budget exchanges) d ok is = absurd is

@@ -66,3 +66,4 @@ one-posed old mean.Certify p q definite ok is also = is ∙ sym also
 one-posed old (mean.Turn to) p q definite ok is also = drafted old (mean.Turn to) p q tt definite ok is also
 one-posed old (mean.Size name width height hug resist) p q definite ok is also = drafted old (mean.Size name width height hug resist) p q tt definite ok is also
 one-posed old (mean.Unsize name) p q definite ok is also = drafted old (mean.Unsize name) p q tt definite ok is also
+one-posed old (mean.Keep name) p q definite ok is also = drafted old (mean.Keep name) p q tt definite ok is also

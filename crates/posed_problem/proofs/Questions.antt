@@ -87,6 +87,7 @@ cause-told old mean.Certify r s h = absurd h.2
 cause-told old (mean.Turn to) r s h = drafting-told old (mean.Turn to) r s tt h
 cause-told old (mean.Size name width height hug resist) r s h = drafting-told old (mean.Size name width height hug resist) r s tt h
 cause-told old (mean.Unsize name) r s h = drafting-told old (mean.Unsize name) r s tt h
+cause-told old (mean.Keep name) r s h = drafting-told old (mean.Keep name) r s tt h
 
 -- ---- what is told of the posed problem
 
@@ -161,6 +162,7 @@ module _ (old : State) (by : List By) (after : State) (d : Scene) where
   ends-clash (mean.Turn to) is e = stands-clash e
   ends-clash (mean.Size name width height hug resist) is e = solves-clash e
   ends-clash (mean.Unsize name) is e = leaves-clash e
+  ends-clash (mean.Keep name) is e = free-clash e
   ends-clash mean.Nothing is e = absurd is
   ends-clash mean.Undo is e = absurd is
   ends-clash (mean.Budget exchanges) is e = absurd is
@@ -214,6 +216,7 @@ module _ (old after : State) (d : Scene) where
   ends-solved (mean.Turn to) is e = stands-solved e
   ends-solved (mean.Size name width height hug resist) is e = solves-solved e
   ends-solved (mean.Unsize name) is e = leaves-solved e
+  ends-solved (mean.Keep name) is e = free-solved e
   ends-solved mean.Nothing is e = absurd is
   ends-solved mean.Undo is e = absurd is
   ends-solved (mean.Budget exchanges) is e = absurd is
@@ -282,6 +285,7 @@ plain-told old (mean.Release name attr) by after is h = true≢false (sym (ap is
 plain-told old (mean.Turn to) by after is h = true≢false (sym (ap is_plain is))
 plain-told old (mean.Size name width height hug resist) by after is h = true≢false (sym (ap is_plain is))
 plain-told old (mean.Unsize name) by after is h = true≢false (sym (ap is_plain is))
+plain-told old (mean.Keep name) by after is h = true≢false (sym (ap is_plain is))
 
 -- a command makes a draft, as its problem is posed then, or asks for no step
 drafts-or-plain : (old : State) (m : Meaning) (p : Problem) → Poses old m p → (IsDrafting m × Tried old m (PosesDraft p) (PosesScene old p) Done old) ⊎ (kind_for m ≡ Plain)
@@ -305,6 +309,7 @@ drafts-or-plain old mean.Certify p poses = inr refl
 drafts-or-plain old (mean.Turn to) p poses = inl (tt, poses)
 drafts-or-plain old (mean.Size name width height hug resist) p poses = inl (tt, poses)
 drafts-or-plain old (mean.Unsize name) p poses = inl (tt, poses)
+drafts-or-plain old (mean.Keep name) p poses = inl (tt, poses)
 
 pub solvable-not-refused : SolvableIsNotRefused
 solvable-not-refused old m told after by definite ok why step =

@@ -99,6 +99,7 @@ module _ (old : State) (is : IsDefiniteState old) where
   stay (mean.Turn to) r s ok h = steps (mean.Turn to) r s tt ok (λ d definite e. stands d r s definite e) h
   stay (mean.Size name width height hug resist) r s ok h = steps (mean.Size name width height hug resist) r s tt ok (λ d definite e. solves d r s definite e) h
   stay (mean.Unsize name) r s ok h = steps (mean.Unsize name) r s tt ok (λ d definite e. leaves d r s definite e) h
+  stay (mean.Keep name) r s ok h = steps (mean.Keep name) r s tt ok (λ d definite e. solves-free d r s definite e) h
 
 pub stay-definite : StepsStayDefinite
 stay-definite old m reply new is ok h = stay old is m reply new ok h

@@ -16,7 +16,8 @@ use Rattle.problem_core.proofs.Forms.{each-impl}
 use Rattle.problem_core.proofs.Wholes.{whole-IsProblem}
 use Rattle.corner_laws.proofs.RunSteps.ColumnSigns.{negative_by_reduced, pick, mark_line, required_by_reduced}
 use Rattle.corner_laws.specs.RunLaws.{AreReduced}
-use Rattle.corner.specs.Views.{AreCandidates, IsKeptCorner, IsMarkOf, IsOutside, IsReducedAt}
+use Rattle.corner.specs.Views.{AreCandidates, IsKeptCorner, IsLevelOf, IsMarkOf, IsNamed, IsOutside, IsReducedAt}
+use Rattle.corner_table.proofs.Readings.ReadFacts.{mark_named}
 use Rattle.primal_run.specs.Entering.{HasNoRequired, IsChoice, IsRequired, MayEnter}
 use Rattle.primal_run.specs.declared.entering.Choice.{Choice}
 use Rattle.problem_core.specs.declared.parts.Level.{Level}
@@ -152,3 +153,16 @@ choice_required p at f e h = record {
   is_reduced = subst (λ (l : Level). IsReducedAt p at l f.mark f.front.reduced) e h.front.reduced;
   below = h.below;
 }
+
+-- ---- what a choice names
+
+-- a choice's level has a number
+pub choice_level : (p : Problem) (at : List Mark) (f : Choice) → IsChoice p at f → IsLevelOf p f.front.level
+choice_level p at f h = let (k, l, within, is, there) = h.front.used in (l.level, there)
+
+-- its mark is of a line
+pub choice_named : (p : Problem) (at : List Mark) (f : Choice) → IsChoice p at f → IsNamed p f.mark.row
+choice_named p at f h = mark_named p f.mark h.negative.outside.0
+
+pub required_named : (p : Problem) (at : List Mark) (m : Mark) → IsRequired p at m → IsNamed p m.row
+required_named p at m h = mark_named p m h.outside.0

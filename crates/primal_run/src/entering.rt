@@ -75,38 +75,36 @@ fn is_lower(c: &Corner, a: u32, b: u32) -> bool {
 }
 
 /// Whether the first line is weaker.
-pub(crate) fn is_weaker(c: &Corner, a: RowName, b: RowName) -> bool {
+pub(crate) fn is_weaker(c: &Corner, a: RowName, b: RowName) -> bool
+    requires a { IsNamed c.now.problem a }
+    requires b { IsNamed c.now.problem b }
+{
     match (a, b) {
         (RowName::Held(x), RowName::Held(y)) => is_lower(c, x, y),
-        (RowName::Stay(x), RowName::Stay(y)) => x > y,
+        (RowName::Stay(x), RowName::Stay(y)) => c.is_stronger(Level::Stay(y), Level::Stay(x)),
         (RowName::Stay(_), RowName::Held(_)) => true,
         (RowName::Held(_), RowName::Stay(_)) => false,
     }
 }
 
-// Whether the first level is stronger.
-fn is_stronger(a: Level, b: Level) -> bool {
-    match (a, b) {
-        (Level::Priority(x), Level::Priority(y)) => x > y,
-        (Level::Stay(x), Level::Stay(y)) => x < y,
-        (Level::Priority(_), Level::Stay(_)) => true,
-        (Level::Stay(_), Level::Priority(_)) => false,
-    }
-}
-
 // Whether the first one enters before the other: the stronger level first, there the lower reduced cost, and
 // of equal ones the weaker line.
-fn enters_before(c: &Corner, a: Choice, b: Choice) -> bool {
+fn enters_before(c: &Corner, a: Choice, b: Choice) -> bool
+    requires a { IsChoice c.now.problem c.now.marks a }
+    requires b { IsChoice c.now.problem c.now.marks b }
+{
     if a.front.level == b.front.level {
         a.front.reduced < b.front.reduced
             || a.front.reduced == b.front.reduced && is_weaker(c, a.mark.row, b.mark.row)
     } else {
-        is_stronger(a.front.level, b.front.level)
+        c.is_stronger(a.front.level, b.front.level)
     }
 }
 
 // The one of the two that enters before the other.
 fn better(c: &Corner, choice: Choice, found: Option<Choice>) -> Choice
+    requires choice { IsChoice c.now.problem c.now.marks choice }
+    requires found { IfSome found (IsChoice c.now.problem c.now.marks) }
     ensures { (result ≡ choice) ⊎ (found ≡ Some result) }
 {
     match found {

@@ -83,6 +83,8 @@ fn lower_of(c: &Corner, row: RowName) -> Option<Lower>
 
 // The lower one, and of equal ones that of the weaker line.
 fn lowest(c: &Corner, lower: Lower, found: Option<Lower>) -> Lower
+    requires lower { IsRequired c.now.problem c.now.marks lower.mark }
+    requires found { IfSome found (λ f. IsRequired c.now.problem c.now.marks f.mark) }
     ensures { (result ≡ lower) ⊎ (found ≡ Some result) }
 {
     match found {

@@ -19,7 +19,7 @@ use Rattle.claim_writing.specs.Lines.{problem_text}
 use Rattle.claim_writing.specs.ClaimLines.{claim_text}
 use Rattle.claim_writing.specs.declared.claim.Claim.TheVariants.{IsBest, IsConflict}
 use Rattle.claim_writing.specs.PathTexts.{path_text, unfit_text}
-use Rattle.scenes.specs.Scene.{Scene, problem_of}
+use Rattle.scenes.specs.Scene.{Scene, problem_of, values_by_number}
 use Rattle.session_undo.specs.Replies.{Reply, Nothing, Done, Frames, Rows, Outside, Unknown, Taken, Limit}
 use Rattle.session_undo.specs.Replies.{Certificate, Kind, Conflict, NoEarlier, Overflow, Spent, Place, Step}
 use Rattle.session_undo.specs.Replies.{Still}
@@ -94,11 +94,11 @@ abbrev pub rows_text : Scene → List ℕ
 rows_text scene = flat_map name_lines scene.tree.views
     ++ (problem_text (problem_of scene) ++ line_of (codes "ok"))
 
--- the lines of `rows`, the values, and the multipliers of each level
+-- the lines of `rows`, the values by attribute number, and the multipliers of each level
 abbrev pub certificate_text : Scene → List BestLevel → List ℕ
 certificate_text scene levels = flat_map name_lines scene.tree.views
     ++ (problem_text (problem_of scene)
-    ++ (claim_text (IsBest scene.values levels) ++ line_of (codes "ok")))
+    ++ (claim_text (IsBest (values_by_number scene) levels) ++ line_of (codes "ok")))
 
 -- the multipliers, each on a line `by TIMES row ID`
 abbrev pub conflict_text : List By → List ℕ

@@ -6,7 +6,8 @@ ghost use Rattle.reply_texts.specs.Replies.{text_of, frames_text, rows_text, nam
 ghost use Rattle.reply_texts.specs.Replies.{certificate_text, core_text, diagnosis_text, line_of};
 ghost use Rattle.reply_texts.specs.Replies.{no_conflict_text};
 ghost use Rattle.diagnosis.specs.Diagnoses.{findings_of};
-ghost use Rattle.session_undo.specs.Replies.{accepted, IsChange, Tells};
+ghost use Rattle.scenes.specs.Scene.{Scene};
+ghost use Rattle.session_undo.specs.Replies.{accepted, found_reply, IsChange, Tells};
 ghost use Rattle.reply_texts.specs.declared.reply.TheConstants.{OK_LENGTH};
 
 use crate::cores::push_core;
@@ -97,6 +98,17 @@ fn show_core(
     push_ok(out)
 }
 
+// What is found of the required rows of the problem that a command would solve, whatever the scene.
+fn show_answer(found: &Found, out: &mut Vec<u8>) -> Result<(), OutOfMemory>
+    ensures { (scene : Scene) → IfOk result
+        (λ _. out.new.items ≡ out.old.items ++ text_of scene (found_reply found.now)) }
+{
+    match found {
+        Found::Solvable => show_no_conflict(out),
+        Found::Core { rows, by, without } => show_core(rows, by, without, out),
+    }
+}
+
 // Appends the text of the reply to an accepted line.
 fn push_reply(session: &Session, reply: &Reply, out: &mut Vec<u8>) -> Result<(), OutOfMemory>
     ensures { IfOk result (λ _. out.new.items
@@ -109,8 +121,7 @@ fn push_reply(session: &Session, reply: &Reply, out: &mut Vec<u8>) -> Result<(),
         Reply::Rows => show_rows(session, out),
         Reply::Certificate(best) => show_certificate(session, best, out),
         Reply::Diagnosed(found) => show_found(session, found, out),
-        Reply::Why(Found::Solvable) => show_no_conflict(out),
-        Reply::Why(Found::Core { rows, by, without }) => show_core(rows, by, without, out),
+        Reply::Why(found) => show_answer(found, out),
     }
 }
 

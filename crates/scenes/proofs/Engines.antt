@@ -1,6 +1,5 @@
 -- What a scene hands its engine, and what the engine's answers come to.
 pub mod Additions
-pub mod BestValues
 pub mod Moves
 pub mod Reached
 pub mod Solved

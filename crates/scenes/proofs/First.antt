@@ -22,7 +22,7 @@ use Rattle.held_items.specs.declared.limits.TheConstants.{EARLIER}
 use Rattle.held_items.specs.Attributes.{IsCounted}
 use Rattle.scenes.specs.Kept.{AreAlike, IsKept, IsKeptHistory, history_at, scene_at}
 use Rattle.held_items.specs.Kept.{IsItem, IsNamed}
-use Rattle.scenes.proofs.Engines.BestValues.{best-unique}
+use Rattle.layout_solver.proofs.UniqueBest.{best_unique}
 use Rattle.problem_core.proofs.Sides.{zero-lowest as zero-IsLowest}
 use Rattle.scenes.specs.declared.scene.past.Setting.{Setting}
 
@@ -52,7 +52,7 @@ first-IsProblem =
 
 -- the values of a layout of the first problem
 first-values : (l : Layout) → l.problem ≡ first_problem → AreBest l.problem l.values → l.values ≡ new_values 0
-first-values l is best = best-unique first_problem first-IsProblem l.values (new_values 0) (subst (λ (p : Problem). AreBest p l.values) is best) first-AreBest
+first-values l is best = best_unique first_problem first-IsProblem l.values (new_values 0) (subst (λ (p : Problem). AreBest p l.values) is best) first-AreBest
 
 pub first-corner : (l : Layout) → l.problem ≡ first_problem → AreBest l.problem l.values → IsReached l.problem l.corner l.values → IsFirstCorner l.corner
 first-corner l is best reached =

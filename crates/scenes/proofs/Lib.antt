@@ -9,5 +9,5 @@ pub mod Removals
 pub mod Renewals
 pub mod Settings
 pub mod Turned
+pub mod KeptViews
 pub mod Views
-pub mod RisingStays

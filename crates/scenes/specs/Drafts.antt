@@ -122,6 +122,17 @@ pub record IsNearIntrinsic (scene : Scene) (s : IntrinsicSize) : Type 0 where
   pub width : FitsAfter before.width s.width
   pub height : FitsAfter before.height s.height
 
+-- ---- views that are kept
+
+-- the view of this name has this number
+abbrev pub IsViewNamed : Scene → List ℕ → ℕ → Type 0
+IsViewNamed scene name id =
+    (view : LiveView) × (view_named scene.tree.views name ≡ Some view) × (id ≡ view.id)
+
+-- a view has this number
+abbrev pub IsThere : Scene → ℕ → Type 0
+IsThere scene id = (name : List ℕ) × IsViewNamed scene name id
+
 -- ---- other constants
 
 -- what gets them is held, with rows of these numbers, and no constant moves too far

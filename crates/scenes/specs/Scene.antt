@@ -1,6 +1,6 @@
 -- The scene: what a script has said so far, the rows that this stands for, and the values that it has led to.
 use Rattle.std.specs.Prelude.{◌≡◌, ℕ, ◌+◌, ◌*◌, Bool, true, false, List, [], ◌∷◌, ◌++◌, length, cond, take}
-use Rattle.std.specs.Prelude.{is_some, map, AllPairs, ◌<◌}
+use Rattle.std.specs.Prelude.{is_some, map}
 use Rattle.frac_core.specs.Fraction.{Fraction}
 use Rattle.name_tables.specs.Names.{names_of, place_of, with_value}
 use Rattle.problem_core.specs.declared.parts.Mark.{Mark}
@@ -15,6 +15,7 @@ use Rattle.view_tree.specs.JsonTrees.{Branch, size}
 use Rattle.compile_parts.specs.Meaning.{MetricList}
 use Rattle.constraint_compile.specs.Compiled.{CompiledLine}
 use Rattle.layout_solver.specs.Begins.{IsReached}
+use Rattle.stay_orders.specs.Orders.{with_front}
 use Rattle.layout_solver.specs.Layouts.{AreBest, stays_at, zeros}
 use Rattle.script_text.specs.declared.words.AttrWord.{AttrWord}
 use Rattle.script_text.specs.declared.words.Direction.{Direction}
@@ -23,7 +24,7 @@ use Rattle.constraint_compile.specs.declared.suggestion.Suggestion.{Suggestion}
 use Rattle.held_items.specs.Items.{Item, OfWindow, OfView, Sized, OfLine, Suggested, Intrinsic, AreRows}
 use Rattle.held_items.specs.Items.{has_size, intrinsic_again, resized, suggested_again, view_items}
 use Rattle.held_items.specs.declared.item.intrinsic.IntrinsicSize.{IntrinsicSize}
-use Rattle.held_items.specs.Attributes.{attributes_from}
+use Rattle.held_items.specs.Attributes.{all_attributes, attributes_from, view_attributes}
 use Rattle.held_items.specs.declared.row_numbers.TheConstants.{FIRST_FREE_ROW, INTRINSIC_ROWS, SIZE_ROWS}
 use Rattle.held_items.specs.declared.row_numbers.TheConstants.{VIEW_ROWS}
 use Rattle.view_tree.specs.Views as tree
@@ -31,8 +32,8 @@ use Rattle.view_tree.specs.JsonTrees as branches
 
 -- the views, the metrics in order of definition, what is held in order of acceptance, the number that the
 -- next row takes, the direction in which lines and suggestions that come are meant, the rows by rising
--- number, the stays, the values by their attributes' numbers, and the marks inside at the corner that is kept
--- for them
+-- number, the stays, stronger ones first, the values in the stays' order, and the marks inside at the corner
+-- that is kept for them
 pub record Scene : Type 0 where
   pub tree : ViewTree
   pub metrics : MetricList
@@ -67,10 +68,6 @@ problem_of scene = record { rows = scene.rows; stays = scene.stays }
 -- stays of the same attributes, at their values
 abbrev pub moved : List Stay → List (ℕ × Fraction) → List Stay
 moved stays values = map (λ s. record { attr = s.attr; target = value_of values s.attr }) stays
-
--- the attributes of these stays rise
-abbrev pub AreRisingStays : List Stay → Type 0
-AreRisingStays stays = AllPairs (λ s t. s.attr < t.attr) stays
 
 -- the four attributes of a view, at 0
 abbrev pub new_values : ℕ → List (ℕ × Fraction)
@@ -140,6 +137,11 @@ with_window old width height = record old {
 abbrev pub with_direction : Scene → Direction → Scene
 with_direction old to = record old { direction = to; stays = moved old.stays old.values }
 
+-- with the stays of this view first
+abbrev pub with_kept : Scene → ℕ → Scene
+with_kept old view =
+    record old { stays = with_front (view_attributes view) (moved old.stays old.values) }
+
 -- with an item more, which has so many rows
 abbrev pub with_item : Scene → Item → ℕ → Scene
 with_item old item count = record old {
@@ -193,6 +195,10 @@ pub record Becomes (draft new : Scene) : Type 0 where
 -- the values are the best for the rows and stays
 abbrev pub IsBestScene : Scene → Type 0
 IsBestScene scene = AreBest (problem_of scene) scene.values
+
+-- the values by attribute number, whatever the order of the stays
+abbrev pub values_by_number : Scene → List (ℕ × Fraction)
+values_by_number scene = map (λ a. (a, value_of scene.values a)) (all_attributes scene.tree.views)
 
 -- ---- the first scene
 

@@ -34,4 +34,3 @@ mod scene;
 pub use limits::FIRST_BUDGET;
 pub use scene::Scene;
 pub use scene::updates::{NewLine, NewMetrics, Update};
-pub use scene::values::values_of;

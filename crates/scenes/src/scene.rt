@@ -23,7 +23,9 @@ ghost use Rattle.scenes.specs.Kept.{no_layout};
 use crate::limits::FIRST_BUDGET;
 use crate::scene::frames::{frame_of, place_of};
 use crate::scene::past::{Past, Setting};
+use crate::scene::values::values_of;
 use cert_core::Best;
+use conflict_core::{CoreStop, Found, core_near};
 use constraint_compile::Suggestion;
 use diagnosis::{Diagnosis, Stopped, diagnose};
 use frac_core::{Frac, OutOfMemory};
@@ -33,7 +35,7 @@ use held_items::{
 };
 use layout_solver::Engine;
 use name_tables::Metrics;
-use problem_core::Row;
+use problem_core::{Problem, Row, Values};
 use script_text::{AttrWord, Direction};
 use std::alloc::Global;
 use std::collections::VecDeque;
@@ -129,10 +131,12 @@ impl Scene {
     ghost use Rattle.diagnosis.specs.Diagnoses.{findings_of};
     ghost use Rattle.scenes.specs.Diagnosing.{AreFindingsOf, IsCertificateOf, IsProbedStop};
     ghost use Rattle.scenes.specs.Frames.{IsFrameAt, IsFrameOf};
+    ghost use Rattle.conflict_core.specs.Shown.{IsFound};
+    ghost use Rattle.conflict_core.specs.Trials.{IsCoreStop};
     ghost use Rattle.held_items.specs.Items.{has_size, intrinsic_of, line_count, suggestion_of};
     ghost use Rattle.held_items.specs.Leaving.{is_in_group};
     ghost use Rattle.held_items.specs.Moving.{IsFarSize};
-    ghost use Rattle.scenes.specs.Scene.{IsFirstCorner, first_history};
+    ghost use Rattle.scenes.specs.Scene.{IsFirstCorner, first_history, values_by_number};
     ghost use Rattle.std.specs.VecDeque.{deque_capacity};
     ghost use Rattle.held_items.specs.declared.limits.TheConstants.{EARLIER};
 
@@ -251,6 +255,15 @@ impl Scene {
         &self.engine
     }
 
+    /// The values of all attributes, by number.
+    pub fn values(&self) -> Result<Values, OutOfMemory>
+        ensures { IfOk result (λ values. values ≡ values_by_number self.now.scene) }
+    {
+        self.engine.show_layout(); // for the proof: what an engine keeps
+        let _count = self.tree.len(); // for the proof: what a tree keeps
+        values_of(self.alloc, &self.tree, &self.engine)
+    }
+
     /// Left, top, width and height of the view at a place, counted from 0 in order of creation. There is none
     /// exactly past the end.
     pub fn frame_at(&self, place: usize) -> Option<[Frac; 4]>
@@ -332,6 +345,17 @@ impl Scene {
     {
         self.engine.show_layout(); // for the proof: what an engine keeps
         diagnose(self.alloc, &mut self.engine, budget)
+    }
+
+    /// Whether the required rows of a problem have a solution, and if they have none, a core of them. The scene
+    /// is as before. The engine is asked first, which has most of the rows of a problem that a change would
+    /// lead to.
+    pub fn core(&mut self, p: &Problem, budget: u64) -> Result<Found, CoreStop>
+        ensures found { IfOk result (IsFound p.now) }
+        ensures stop { IfErr result (IsCoreStop p.now budget) }
+        ensures same { self.new ≡ self.old }
+    {
+        core_near(self.alloc, &mut self.engine, p, budget)
     }
 
     /// The multipliers that show the values to be best: those of the corner's levels, in the form in which a

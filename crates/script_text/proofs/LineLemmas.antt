@@ -57,6 +57,7 @@ arguments_lives len key.Certify = end_lives is_space mean.Certify
 arguments_lives len key.Direction = direction_lives len
 arguments_lives len key.Size = size_lives len
 arguments_lives len key.Unsize = name_lives is_space refl (λ n. end_lives is_space (mean.Unsize n))
+arguments_lives len key.Keep = name_lives is_space refl (λ n. end_lives is_space (mean.Keep n))
 
 arguments_answers : (len : ℕ) (k : Keyword) (s : List ℕ) → Answers (Arguments len k) s (arguments_at len k s)
 arguments_answers len key.View s = view_answers len s
@@ -78,6 +79,7 @@ arguments_answers len key.Certify s = bare_answers mean.Certify s
 arguments_answers len key.Direction s = direction_answers len s
 arguments_answers len key.Size s = size_answers len s
 arguments_answers len key.Unsize s = named_answers mean.Unsize s
+arguments_answers len key.Keep s = named_answers mean.Keep s
 
 -- ---- what follows the first word
 

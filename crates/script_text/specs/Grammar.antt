@@ -44,7 +44,7 @@ plain_words = (codes "undo", key.Undo) ∷ (codes "budget", key.Budget) ∷ (cod
 -- those of changes that version 2 has besides
 unfoldable pub new_change_words : List (List ℕ × Keyword)
 new_change_words = (codes "direction", key.Direction) ∷ (codes "size", key.Size)
-    ∷ (codes "unsize", key.Unsize) ∷ []
+    ∷ (codes "unsize", key.Unsize) ∷ (codes "keep", key.Keep) ∷ []
 
 -- the words of all commands of version 1
 abbrev pub first_words : List (List ℕ × Keyword)
@@ -206,6 +206,7 @@ Arguments len key.Direction = Words directions (λ d. Tail (End (mean.Turn d)))
 Arguments len key.Size = Name (λ n. Number (λ w. Number (λ h. Pull (codes "hug") (λ p.
     Pull (codes "resist") (λ q. End (mean.Size n (decimal false w) (decimal false h) p q))))))
 Arguments len key.Unsize = Name (λ n. End (mean.Unsize n))
+Arguments len key.Keep = Name (λ n. End (mean.Keep n))
 
 -- whatever follows
 abbrev pub Any : {A : Type 0} → A → Rel A

@@ -304,16 +304,21 @@ hug_at s = if starts is_h s then word_at (codes "hug") s >>= object_at else Ok (
 unfoldable pub resist_at : List ℕ → Result (Option Meant × List ℕ) ℕ
 resist_at s = if starts is_r s then word_at (codes "resist") s >>= object_at else Ok (None, s)
 
+-- behind a view's name, width and height: perhaps priorities
+unfoldable pub pulls_at : List ℕ → ℕ → ℕ → List ℕ → Result Meaning ℕ
+pulls_at name width height s = do
+  hug ← hug_at s
+  resist ← resist_at hug.1
+  _ ← end_at resist.1
+  Ok (mean.Size name (decimal false width) (decimal false height) hug.0 resist.0)
+
 -- what follows the word `size`: a view's name, a width, a height, and perhaps priorities
 unfoldable pub size_at : List ℕ → Result Meaning ℕ
 size_at s = do
   name ← name_at s
   width ← number_at name.1
   height ← number_at width.1
-  hug ← hug_at height.1
-  resist ← resist_at hug.1
-  _ ← end_at resist.1
-  Ok (mean.Size name.0 (decimal false width.0) (decimal false height.0) hug.0 resist.0)
+  pulls_at name.0 width.0 height.0 height.1
 
 -- what follows the word of a command in a line of this length
 abbrev pub arguments_at : ℕ → Keyword → List ℕ → Result Meaning ℕ
@@ -336,6 +341,7 @@ arguments_at len key.Certify s = bare_at mean.Certify s
 arguments_at len key.Direction s = direction_at s
 arguments_at len key.Size s = size_at s
 arguments_at len key.Unsize s = named_at mean.Unsize s
+arguments_at len key.Keep s = named_at mean.Keep s
 
 -- the text behind the first word and the spaces that follow it
 unfoldable pub apart_at : List ℕ → Result (List ℕ) ℕ

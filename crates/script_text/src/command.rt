@@ -193,6 +193,10 @@ pub enum Command<'a> {
     Unsize {
         name: &'a str,
     },
+    /// A view that is to stay where it is before all others, where a row moves one of them.
+    Keep {
+        name: &'a str,
+    },
 }
 
 /// The reading of a line: a command, or a command that makes a change, of which it is asked why it would

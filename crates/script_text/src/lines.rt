@@ -81,6 +81,15 @@ fn unsize_line(text: &[u8]) -> Result<Command<'_>, PartStop>
     Ok(Command::Unsize { name })
 }
 
+#[tactic(auto, unfolding(crate::specs::LineReading::named_at))]
+fn keep_line(text: &[u8]) -> Result<Command<'_>, PartStop>
+    ensures { GivesOrMemory view result (named_at mean.Keep text.now) }
+{
+    let (name, text) = names::name(text)?;
+    pieces::end(text)?;
+    Ok(Command::Keep { name })
+}
+
 // The value of the metric of this name.
 #[tactic(auto, unfolding(crate::specs::LineReading::metric_value_at))]
 fn metric_value<'a>(name: &'a str, is_negative: bool, text: &[u8]) -> Result<Command<'a>, PartStop>
@@ -195,6 +204,7 @@ fn arguments(
         Keyword::Direction => direction(text),
         Keyword::Size => size(text),
         Keyword::Unsize => unsize_line(text),
+        Keyword::Keep => keep_line(text),
     }
 }
 

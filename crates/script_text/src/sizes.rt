@@ -2,7 +2,7 @@
 ghost use Rattle.span_text.specs.Gives.{Gives};
 ghost use Rattle.span_text.specs.GivesOrMemory.{GivesOrMemory};
 ghost use Rattle.span_text.specs.Objects.{object_view};
-ghost use Rattle.script_text.specs.LineReading.{hug_at, resist_at, size_at};
+ghost use Rattle.script_text.specs.LineReading.{hug_at, pulls_at, resist_at, size_at};
 ghost use Rattle.script_text.specs.View.{view};
 
 use crate::command::Command;
@@ -34,14 +34,16 @@ fn resist(text: &[u8]) -> Result<(Option<Object<'_>>, &[u8]), usize>
     }
 }
 
-/// What follows the word `size`.
-#[tactic(auto, unfolding(crate::specs::LineReading::size_at))]
-pub fn size(text: &[u8]) -> Result<Command<'_>, PartStop>
-    ensures { GivesOrMemory view result (size_at text.now) }
+// The priorities behind the name, the width and the height.
+#[tactic(auto, unfolding(crate::specs::LineReading::pulls_at))]
+fn pulls<'a>(
+    name: &'a str,
+    width: u32,
+    height: u32,
+    text: &'a [u8],
+) -> Result<Command<'a>, PartStop>
+    ensures { GivesOrMemory view result (pulls_at name.now width height text.now) }
 {
-    let (name, text) = names::name(text)?;
-    let (width, text) = numbers::number(text)?;
-    let (height, text) = numbers::number(text)?;
     let (hug, text) = hug(text)?;
     let (resist, text) = resist(text)?;
     pieces::end(text)?;
@@ -52,4 +54,15 @@ pub fn size(text: &[u8]) -> Result<Command<'_>, PartStop>
         hug,
         resist,
     })
+}
+
+/// What follows the word `size`.
+#[tactic(auto, unfolding(crate::specs::LineReading::size_at))]
+pub fn size(text: &[u8]) -> Result<Command<'_>, PartStop>
+    ensures { GivesOrMemory view result (size_at text.now) }
+{
+    let (name, text) = names::name(text)?;
+    let (width, text) = numbers::number(text)?;
+    let (height, text) = numbers::number(text)?;
+    pulls(name, width, height, text)
 }

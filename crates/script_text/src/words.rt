@@ -34,6 +34,7 @@ pub enum Keyword {
     Direction,
     Size,
     Unsize,
+    Keep,
 }
 
 /// The first word of a line: that of a command, or the one that asks why a command would clash.
@@ -178,7 +179,8 @@ fn plain_word<'a>(
 fn new_change_word(text: &[u8]) -> Result<(Keyword, &[u8]), usize>
     ensures { Gives (λ p. (p.0, p.1.now)) result (tried new_change_words text.now) }
 {
-    let found = or_else(b"unsize", Keyword::Unsize, text, Err(text.len()));
+    let found = or_else(b"keep", Keyword::Keep, text, Err(text.len()));
+    let found = or_else(b"unsize", Keyword::Unsize, text, found);
     let found = or_else(b"size", Keyword::Size, text, found);
     or_else(b"direction", Keyword::Direction, text, found)
 }

@@ -6,7 +6,6 @@ pub mod Drafts
 pub mod Explained
 pub mod LeavingSteps
 pub mod LineStops
-pub mod Rising
 pub mod Rooms
 pub mod SizeSteps
 pub mod Steps

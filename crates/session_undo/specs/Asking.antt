@@ -2,9 +2,9 @@
 use Rattle.std.specs.Prelude.{◌≡◌, ◌≢◌, ℕ, ◌*◌}
 use Rattle.held_items.specs.declared.row_numbers.TheConstants.{VIEW_ROWS}
 use Rattle.view_tree.specs.Drops.{AreGoing}
-use Rattle.scenes.specs.Drafts.{AreComing, HasRoomFor, MayUpdate, coming_draft, updated}
+use Rattle.scenes.specs.Drafts.{AreComing, HasRoomFor, IsThere, MayUpdate, coming_draft, updated}
 use Rattle.scenes.specs.Leaving.{without_group, without_intrinsic, without_suggestion, without_views}
-use Rattle.scenes.specs.Scene.{Scene, with_direction}
+use Rattle.scenes.specs.Scene.{Scene, with_direction, with_kept}
 use Rattle.script_text.specs.Meaning.{Meaning}
 use Rattle.script_text.specs.Meaning as mean
 use Rattle.session_undo.specs.declared.draft.Draft.{Draft}
@@ -23,6 +23,7 @@ drafted old (draft.GroupOut group) = without_group old group
 drafted old (draft.SuggestionOut view word) = without_suggestion old view.0 word
 drafted old (draft.IntrinsicOut view) = without_intrinsic old view.0
 drafted old (draft.Turn to) = with_direction old to
+drafted old (draft.Keep view) = with_kept old view.0
 
 -- the scene can step to it
 abbrev pub MayTake : Scene → Draft → Type 0
@@ -34,14 +35,17 @@ MayTake old (draft.GroupOut group) = Unit {0}
 MayTake old (draft.SuggestionOut view word) = Unit {0}
 MayTake old (draft.IntrinsicOut view) = Unit {0}
 MayTake old (draft.Turn to) = Unit {0}
+MayTake old (draft.Keep view) = IsThere old view.0
 
--- how a step may end: solved or stopped with no conflict told, in each of these ways, or as a removal does,
--- or accepted with no run; `Plain` is for commands that ask for no step
+-- how a step may end: of views that come, and of a view that is kept, solved or stopped with no conflict
+-- told; in each of these ways; as a removal does; or accepted with no run. `Plain` is for commands that ask
+-- for no step
 pub data Kind : Type 0 where
   Free : Kind
   Any : Kind
   Left : Kind
   Turned : Kind
+  Kept : Kind
   Plain : Kind
 
 -- the kind of a draft
@@ -53,6 +57,7 @@ kind_of (draft.GroupOut group) = Left
 kind_of (draft.SuggestionOut view word) = Left
 kind_of (draft.IntrinsicOut view) = Left
 kind_of (draft.Turn to) = Turned
+kind_of (draft.Keep view) = Kept
 
 -- the kind of what a command asks for
 abbrev pub kind_for : Meaning → Kind
@@ -76,6 +81,7 @@ kind_for mean.Certify = Plain
 kind_for (mean.Turn to) = Turned
 kind_for (mean.Size name width height hug resist) = Any
 kind_for (mean.Unsize name) = Left
+kind_for (mean.Keep name) = Kept
 
 -- something is wished of a view
 abbrev pub IsWish : Meaning → Type 0
@@ -95,6 +101,7 @@ EndsAs old Free = SolvesFree old
 EndsAs old Any = Solves old
 EndsAs old Left = LeavesFree old
 EndsAs old Turned = Stands old
+EndsAs old Kept = SolvesFree old
 EndsAs old Plain = λ scene reply new. ⊥
 
 -- what comes of a draft is that it is this scene

@@ -18,8 +18,8 @@ use Rattle.session_undo.specs.Machine.{Keeps, MeaningStep, Poses, Tried}
 use Rattle.session_undo.specs.Replies.{Reply, Core, Held, Solvable, Overflow, Spent}
 use Rattle.session_undo.specs.State.{State}
 
--- the problem is one that the types can hold, its required rows have a solution, and that there is no conflict
--- is told
+-- the problem is one that the types can hold, its required rows have a solution, and it is told that there is
+-- no conflict
 pub record FindsNone (old : State) (p : Problem) (reply : Reply) (new : State) : Type 0 where
   pub whole : IsWhole p
   pub solution : Assignment

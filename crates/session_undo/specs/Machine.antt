@@ -45,6 +45,7 @@ use Rattle.held_items.specs.Items.{IsSmallItem, line_count, has_size, suggestion
 use Rattle.held_items.specs.Items.{intrinsic_name, intrinsic_of}
 use Rattle.scenes.specs.Scene.{Scene, with_view, with_metric, with_window, with_line, problem_of, with_branch}
 use Rattle.scenes.specs.Scene.{with_direction, with_earlier, with_suggestion, with_suggested, draft_problem}
+use Rattle.scenes.specs.Scene.{with_kept}
 use Rattle.scenes.specs.Scene.{AreDraftRows, IsBestScene, with_intrinsic, with_preferred}
 use Rattle.session_undo.specs.State.{State}
 use Rattle.session_undo.specs.Replies.{Reply, Done, Nothing, Frames, Rows, Outside, Unknown, Taken, Limit}
@@ -491,6 +492,17 @@ abbrev pub TriedUnsize : State → List ℕ → (Scene → Reply → State → T
 TriedUnsize old name End =
     Unless (view_named old.scene.tree.views name ≡ None) (Unknown name) old (UnsizesOf old name End)
 
+-- the view of this name, whose stays come first
+abbrev pub KeepsOf : State → List ℕ → (Scene → Reply → State → Type 0) → Reply → State → Type 0
+KeepsOf old name End reply new =
+    (view : LiveView) × (view_named old.scene.tree.views name ≡ Some view)
+    × End (with_kept old.scene view.id) reply new
+
+-- a view that is kept before all others
+abbrev pub TriedKeep : State → List ℕ → (Scene → Reply → State → Type 0) → Reply → State → Type 0
+TriedKeep old name End =
+    Unless (view_named old.scene.tree.views name ≡ None) (Unknown name) old (KeepsOf old name End)
+
 -- the view of this name, whose suggestion of this attribute leaves if one is held
 abbrev pub ReleasesOf : State → List ℕ → AttrWord → (Scene → Reply → State → Type 0) → Reply → State → Type 0
 ReleasesOf old name attr End reply new =
@@ -573,11 +585,12 @@ Tried old mean.Certify End Other = Certifies old Other
 Tried old (mean.Turn to) End Other = End (with_direction old.scene to)
 Tried old (mean.Size name width height hug resist) End Other = TriedSize old name width height hug resist End
 Tried old (mean.Unsize name) End Other = TriedUnsize old name End
+Tried old (mean.Keep name) End Other = TriedKeep old name End
 
 -- ---- what a line leads to
 
--- a draft is solved; that of new views, which change no row that is held, and one from which rows have left
--- are in no conflict; another direction changes no row
+-- a draft is solved; that of new views, which change no row that is held, that of a view that is kept, and
+-- one from which rows have left are in no conflict; another direction changes no row
 abbrev pub Ends : State → Meaning → Scene → Reply → State → Type 0
 Ends old (mean.View name parent) = SolvesFree old
 Ends old (mean.Tree text start) = SolvesFree old
@@ -599,6 +612,7 @@ Ends old mean.Certify = Solves old
 Ends old (mean.Turn to) = Stands old
 Ends old (mean.Size name width height hug resist) = Solves old
 Ends old (mean.Unsize name) = LeavesFree old
+Ends old (mean.Keep name) = SolvesFree old
 
 -- what a line that says this leads to
 abbrev pub MeaningStep : State → Meaning → Reply → State → Type 0

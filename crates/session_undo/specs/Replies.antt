@@ -39,9 +39,9 @@ place_of (place.Held ids) = Held ids.items
 -- multipliers of each level, and `Diagnosed`, with what is found of the scene, to questions; to the question
 -- why a command would clash `Solvable`, where its problem has a solution, or `Core`, with rows that clash,
 -- their multipliers, and for each row values that satisfy the others; and the refusals: where the line leaves
--- the grammar, the unknown or taken name, the limit, the wrong use, the multipliers of the required rows, that
--- there is no earlier scene; and, each with what had stopped, the path with the quantity that doesn't fit at
--- its end, and the path that uses up the exchanges; and the attribute of a probe whose wished value doesn't
+-- the grammar, the unknown or taken name, the limit, the wrong use, the multipliers of the required rows,
+-- that there is no earlier scene; and, each with what had stopped, the path with the quantity that doesn't fit
+-- at its end, and the path that uses up the exchanges; and the attribute of a probe whose wished value doesn't
 -- fit, up or down
 pub data Reply : Type 0 where
   Nothing : Reply

@@ -23,4 +23,6 @@ pub enum Draft {
     IntrinsicOut(ViewId),
     /// Lines and suggestions that come are meant in this direction; no row changes.
     Turn(Direction),
+    /// The stays of this view come first; no row changes.
+    Keep(ViewId),
 }

@@ -11,7 +11,6 @@ use crate::reply::{
     NoEarlier, Refusal, Reply, answer_of, core_refusal, left_answer, probe_refusal, tree_refusal,
 };
 use compile_parts::{CompileStop, KindWord, resolve_rank};
-use conflict_core::core;
 use constraint_compile::{
     Compiled, Suggestion, USUAL_RANK, compile_line, priority_or, suggested_constant,
 };
@@ -25,7 +24,7 @@ use held_items::{
 use layout_solver::Engine;
 use name_tables::{LimitWord, Metrics, NAME_LIMIT, OwnedName};
 use problem_core::{NUMBER_LIMIT, Problem, Values};
-use scenes::{FIRST_BUDGET, NewLine, NewMetrics, Scene, Update, values_of};
+use scenes::{FIRST_BUDGET, NewLine, NewMetrics, Scene, Update};
 use script_text::{Align, AttrWord, Command, Linear, Reading, Version};
 use span_text::Object;
 use std::alloc::Global;
@@ -68,12 +67,12 @@ impl Session {
     ghost use Rattle.vfl_text.specs.View.{meaning};
     ghost use Rattle.view_tree.specs.JsonStops as json;
     ghost use Rattle.view_tree.specs.Views.{view_of};
-    ghost use Rattle.scenes.specs.Scene.{metrics_with, problem_of};
+    ghost use Rattle.scenes.specs.Scene.{metrics_with, values_by_number};
     ghost use Rattle.constraint_compile.specs.Compiled.{AreSmallForms};
     ghost use Rattle.constraint_compile.specs.Stops.{IsCompiled};
     ghost use Rattle.format_compile.specs.FormatRows.{IsCompiledFormat};
     ghost use Rattle.held_items.specs.Attributes.{IsNextLine};
-    ghost use Rattle.scenes.specs.Drafts.{AreComing};
+    ghost use Rattle.scenes.specs.Drafts.{AreComing, IsViewNamed};
     ghost use Rattle.session_undo.specs.Adding.{AddStop, IsFreeLine, IsFreeMetric, IsFreeName, IsFreeSize};
     ghost use Rattle.session_undo.specs.Adding.{IsFreeSuggestion, IsFreeTree, IsFreeView, IsGoing};
     ghost use Rattle.session_undo.specs.Adding.{IsGroupFree, IsGroupLimit, IsHeldSuggestion, IsLineFree};
@@ -91,17 +90,17 @@ impl Session {
     ghost use Rattle.session_undo.specs.Machine.{TriedTree, TriedUndo, TriedView, TriedWindow};
     ghost use Rattle.session_undo.specs.Machine.{AreKnownPulls, IsRankless, Sizes, TriedSize, TriedUnsize};
     ghost use Rattle.session_undo.specs.Machine.{UnlessPullsRankless, UnlessRankless, UnlessUnknown};
-    ghost use Rattle.session_undo.specs.Machine.{intrinsic_at};
+    ghost use Rattle.session_undo.specs.Machine.{TriedKeep, intrinsic_at};
     ghost use Rattle.session_undo.specs.Adding.{AreRanks, IsFreeIntrinsic, IsHeldIntrinsic, IsIntrinsicFor};
     ghost use Rattle.session_undo.specs.Adding.{SizeStep};
     ghost use Rattle.scenes.specs.Steps.{IsProblemOf};
-    ghost use Rattle.conflict_core.specs.Trials.{HasRisingStays};
     ghost use Rattle.session_undo.specs.Explaining.{Explains, SaidStep, WhyStep};
     ghost use Rattle.held_items.specs.Moving.{FitsAfter};
     ghost use Rattle.compile_parts.specs.Meaning.{IsRank, unknown_object};
     ghost use Rattle.constraint_compile.specs.Suggestions.{priority_or, suggested_priority};
     ghost use Rattle.span_text.specs.Objects.{Meant, object_view};
-    ghost use Rattle.session_undo.specs.Asking.{Any, EndsAs, Free, IsDraft, Left, MayTake, Plain, Turned};
+    ghost use Rattle.session_undo.specs.Asking.{Any, EndsAs, Free, IsDraft, Kept, Left, MayTake, Plain};
+    ghost use Rattle.session_undo.specs.Asking.{Turned};
     ghost use Rattle.session_undo.specs.Asking.{IsUnwish, IsWish, drafted};
     ghost use Rattle.session_undo.specs.Asking.{kind_for, kind_of};
     ghost use Rattle.held_items.specs.Leaving.{is_in_group};
@@ -765,6 +764,17 @@ impl Session {
         Ok(view)
     }
 
+    // The view of this name.
+    fn known(&self, name: &str) -> Result<ViewId, Refusal>
+        ensures named { IfOk result (λ id. IsViewNamed self.now.scene name.now id.0) }
+        ensures refused { Refusing (TriedKeep self.now name.now NoEnd) self.now result }
+    {
+        let Some(view) = self.scene.tree().find(name) else {
+            return Err(Refusal::Unknown(OwnedName::of(self.alloc, name.as_bytes())?));
+        };
+        Ok(view)
+    }
+
     // A certificate of the scene's values.
     fn certify(&self) -> Result<Reply, Refusal>
         ensures accepted { Accepting (Certifies self.now Keeps) self.now result }
@@ -798,25 +808,15 @@ impl Session {
         }
     }
 
-    // The scene's problem.
-    fn scene_problem(&self) -> Result<Problem, OutOfMemory>
-        ensures is { IfOk result (λ p. p ≡ problem_of self.now.scene) }
-        ensures rising { IfOk result HasRisingStays }
-    {
-        self.scene.show_stays(); // for the proof: what a scene keeps
-        self.scene.problem()
-    }
-
     // The scene's problem, where there is an earlier scene.
     fn undo_problem(&self) -> Result<Problem, Refusal>
         ensures posed { IfOk result (λ p. TriedUndo self.now (PosesScene self.now p) Done self.now) }
-        ensures rising { IfOk result HasRisingStays }
         ensures refused { Refusing (TriedUndo self.now NoOther) self.now result }
     {
         if !self.scene.has_earlier() {
             return Err(Refusal::NoEarlier);
         }
-        Ok(self.scene_problem()?)
+        Ok(self.scene.problem()?)
     }
 
     // Each run may make so many exchanges.
@@ -848,13 +848,12 @@ impl Session {
     fn budget_problem(&self, exchanges: u64) -> Result<Problem, Refusal>
         ensures posed { IfOk result
             (λ p. TriedBudget self.now exchanges (PosesScene self.now p) Done self.now) }
-        ensures rising { IfOk result HasRisingStays }
         ensures refused { Refusing (TriedBudget self.now exchanges NoOther) self.now result }
     {
         if is_no_budget(exchanges) {
             return Err(Refusal::Limit(LimitWord::Budget));
         }
-        Ok(self.scene_problem()?)
+        Ok(self.scene.problem()?)
     }
 
     // What a session keeps, for proofs.
@@ -1004,6 +1003,21 @@ impl Session {
         }
     }
 
+    // The draft of a command by which a view is kept.
+    fn keeping_draft(&self, command: &Command<'_>) -> Result<Option<Draft>, Refusal>
+        ensures made { IfOk result (λ o. IfSome o (IsDraft self.now (view command.now))) }
+        ensures none { IfOk result (λ o. IfNone o (kind_for (view command.now) ≡ Kept → ⊥)) }
+        ensures refused { Refusing (Tried self.now (view command.now) NoEnd NoOther) self.now result }
+    {
+        match command {
+            Command::Keep { name } => {
+                let view = self.known(name)?;
+                Ok(Some(Draft::Keep(view)))
+            }
+            _ => Ok(None),
+        }
+    }
+
     // What a command asks of the scene, if it asks for a step.
     fn draft(&self, command: &Command<'_>) -> Result<Option<Draft>, Refusal>
         ensures made { IfOk result (λ o. IfSome o (IsDraft self.now (view command.now))) }
@@ -1017,6 +1031,9 @@ impl Session {
             return Ok(Some(draft));
         }
         if let Some(draft) = self.leaving_draft(command)? {
+            return Ok(Some(draft));
+        }
+        if let Some(draft) = self.keeping_draft(command)? {
             return Ok(Some(draft));
         }
         Ok(self.turning_draft(command))
@@ -1060,16 +1077,18 @@ impl Session {
                 self.scene.turn(to)?;
                 Ok(Reply::Done)
             }
+            Draft::Keep(view) => {
+                let end = self.scene.keep_view(view, self.budget);
+                answer_of(end)
+            }
         }
     }
 
     // The problem of a draft.
     fn pose(&self, draft: Draft) -> Result<Problem, OutOfMemory>
         requires { MayTake self.now.scene draft }
-        ensures posed { IfOk result (IsProblemOf (drafted self.now.scene draft)) }
-        ensures rising { IfOk result HasRisingStays }
+        ensures { IfOk result (IsProblemOf (drafted self.now.scene draft)) }
     {
-        self.scene.show_stays(); // for the proof: what a scene keeps
         match draft {
             Draft::Views(new) => self.scene.views_problem(&new),
             Draft::Update(update) => self.scene.update_problem(update),
@@ -1078,6 +1097,7 @@ impl Session {
             Draft::SuggestionOut(view, word) => self.scene.release_problem(view, word),
             Draft::IntrinsicOut(view) => self.scene.unsized_problem(view),
             Draft::Turn(_) => self.scene.turned_problem(),
+            Draft::Keep(view) => self.scene.kept_problem(view),
         }
     }
 
@@ -1104,7 +1124,6 @@ impl Session {
     fn plain_problem(&self, command: &Command<'_>) -> Result<Problem, Refusal>
         requires { kind_for (view command.now) ≡ Plain }
         ensures posed { IfOk result (Poses self.now (view command.now)) }
-        ensures rising { IfOk result HasRisingStays }
         ensures refused { Refusing (Tried self.now (view command.now) NoEnd NoOther) self.now result }
     {
         match command {
@@ -1114,7 +1133,7 @@ impl Session {
             | Command::Frames
             | Command::Rows
             | Command::Diagnose
-            | Command::Certify => Ok(self.scene_problem()?),
+            | Command::Certify => Ok(self.scene.problem()?),
             _ => unreachable!(),
         }
     }
@@ -1124,7 +1143,6 @@ impl Session {
     /// command before it solves. It makes the problem, which nothing holds, from copies of the rows.
     pub fn step_problem(&self, command: &Command<'_>) -> Result<Problem, Refusal>
         ensures posed { IfOk result (Poses self.now (view command.now)) }
-        ensures rising { IfOk result HasRisingStays }
         ensures refused { Refusing (Tried self.now (view command.now) NoEnd NoOther) self.now result }
     {
         match self.draft(command)? {
@@ -1146,22 +1164,23 @@ impl Session {
     }
 
     // What the required rows of a problem come to.
-    fn explained(&self, p: &Problem) -> Result<Reply, Refusal>
-        requires rising { HasRisingStays p.now }
-        ensures accepted { Accepting (Explains self.now p.now) self.now result }
-        ensures refused { Refusing (Explains self.now p.now) self.now result }
+    fn explained(&mut self, p: &Problem) -> Result<Reply, Refusal>
+        ensures accepted { Accepting (Explains self.old p.now) self.new result }
+        ensures refused { Refusing (Explains self.old p.now) self.old result }
+        ensures same { self.new ≡ self.old }
     {
         p.show_whole(); // for the proof: what a problem keeps
-        match core(self.alloc, p, self.budget) {
+        match self.scene.core(p, self.budget) {
             Ok(found) => Ok(Reply::Why(found)),
             Err(stop) => Err(core_refusal(stop)),
         }
     }
 
     // Why a command would clash, if it would.
-    fn explain(&self, command: &Command<'_>) -> Result<Reply, Refusal>
-        ensures accepted { Accepting (WhyStep self.now (view command.now)) self.now result }
-        ensures refused { Refusing (WhyStep self.now (view command.now)) self.now result }
+    fn explain(&mut self, command: &Command<'_>) -> Result<Reply, Refusal>
+        ensures accepted { Accepting (WhyStep self.old (view command.now)) self.new result }
+        ensures refused { Refusing (WhyStep self.old (view command.now)) self.old result }
+        ensures same { self.new ≡ self.old }
     {
         let problem = self.step_problem(command)?;
         self.explained(&problem)
@@ -1199,9 +1218,9 @@ impl Session {
 
     /// The values of all attributes, by number.
     pub fn values(&self) -> Result<Values, OutOfMemory>
-        ensures { IfOk result (λ values. values ≡ self.now.scene.values) }
+        ensures { IfOk result (λ values. values ≡ values_by_number self.now.scene) }
     {
-        values_of(self.alloc, self.scene.engine())
+        self.scene.values()
     }
 
     /// The engine: the problem of the rows of all that is held, and its best values.

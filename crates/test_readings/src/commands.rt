@@ -221,6 +221,7 @@ fn put_later(out: &mut String, command: &Command<'_>) -> Result<(), OutOfMemory>
             put_pulls(out, *hug, *resist)
         }
         Command::Unsize { name } => put_named(out, "unsize", name),
+        Command::Keep { name } => put_named(out, "keep", name),
         _ => put_lone(out, lone_word(command)),
     }
 }

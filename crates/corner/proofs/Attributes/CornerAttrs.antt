@@ -107,7 +107,7 @@ not_zero p whole h = zero_row p.rows (stay_lines 1001 p.stays) whole.rows (λ i.
 listed_within : (t : Lists) (w : ℕ) → IsKept t → IsNamed (problem_of t) (name_of (slot_at t w).owner) → (w < length t.slots) ⊎ (length t.slots ≤ w) → w < length t.slots
 listed_within t w kept named (inl lt) = lt
 listed_within t w kept named (inr past) =
-    absurd (not_zero (problem_of t) kept.whole (subst (λ (s : Slot). IsNamed (problem_of t) (name_of s.owner)) (get_or_past t.slots w (record { owner = LevelSlot; home = 0; weight = pos 1; scale = pos 1; rel = Eq }) past) named))
+    absurd (not_zero (problem_of t) kept.whole (subst (λ (s : Slot). IsNamed (problem_of t) (name_of s.owner)) (get_or_past t.slots w (record { owner = LevelSlot; home = 0; rank = 0; weight = pos 1; scale = pos 1; rel = Eq }) past) named))
 
 names_kept : (t : Lists) (attr : ℕ) (target : Fraction) (m : List (List Term)) (a : List ℕ) (ws : List ℕ) → IsKept t → All (IsNamed (problem_of t)) (names_of t ws) → names_of (joined t attr target m a) ws ≡ names_of t ws
 names_kept t attr target m a [] kept named = refl

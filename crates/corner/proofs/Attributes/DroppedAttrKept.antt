@@ -1,5 +1,5 @@
 -- What the lists keep where an attribute that no row names is taken out.
-use Rattle.std.proofs.Common.{◌≡◌, ◌≢◌, ◌∙◌, ℕ, zero, suc, ◌+◌, ◌*◌, ◌^◌, ◌<◌, ◌≤◌, ◌++◌, Bool, false, cond, nat_eq, List, [], ◌∷◌, map, length, length-set, slice_set, refl, sym, ap, ap₂, subst, arith, inl, inr, ℤ, pos, ◌*ℤ◌, ◌+ℤ◌, ◌-ℤ◌, neg_ℤ, ne_eqb, slice_index_or, All, Any, Some, None}
+use Rattle.std.proofs.Common.{◌≡◌, ◌≢◌, ◌∙◌, ◌⊎◌, ℕ, zero, suc, ◌+◌, ◌*◌, ◌^◌, ◌<◌, ◌≤◌, ◌++◌, Bool, false, cond, nat_eq, List, [], ◌∷◌, map, length, length-set, slice_set, refl, sym, ap, ap₂, subst, arith, inl, inr, ℤ, pos, ◌*ℤ◌, ◌+ℤ◌, ◌-ℤ◌, neg_ℤ, ne_eqb, slice_index_or, All, Any, Some, None}
 use Rattle.std.specs.declared.option.Option.{Option}
 use Rattle.std.specs.List.{AllByRecursion as Each, filter}
 use Rattle.std.proofs.lemmas.Bool.{cases_eq, cases_lt}
@@ -38,11 +38,13 @@ use Rattle.corner_table.specs.declared.table.TheConstants.{LEVELS}
 use Rattle.corner.specs.Removals.Dropping.{dropped_attr, no_slot}
 use Rattle.corner_table.specs.Kept.{AreOutside, AreSlots, AreStored, HasStayRoom, IsAttrRow, IsAttrSlot, IsEquationAt, IsKept, IsLevelKept, IsLineRow, IsLineSlot, IsOwned, IsSlot, home_of}
 use Rattle.corner_writings.specs.Rows.{row_number}
-use Rattle.corner_table.specs.Tables.{Lists, attr_slot, entry, is_side, line_slot, marks_at, number, priority_at, problem_of, row_at, slot_at, standing_at, stands_in}
+use Rattle.corner_table.specs.Tables.{Lists, attr_slot, entry, is_side, line_slot, marks_at, number, priority_at, problem_of, row_at, slot_at, standing_at, stands_in, stay_rank}
 use Rattle.corner.specs.Views.{IsNamed}
 use Rattle.corner_exchange.proofs.Basics.SmallFacts.{own_name, own_stay}
 use Rattle.corner_writings.proofs.Basics.OwnerFacts.{stay_named}
+use Rattle.problem_core.proofs.RowNames.{stay-same}
 use Rattle.corner.proofs.Attributes.DroppedAttrLevels.{attr_left_cost, attr_left_level, attr_left_unit, attr_level_none, stays_part}
+use Rattle.corner_table.proofs.Corners.SlotRanks.{last_left, ranks_left}
 use Rattle.corner_table.proofs.Readings.MarkFacts.{stands_inside}
 use Rattle.corner_exchange.proofs.Pivots.PairFacts.{named_mark}
 use Rattle.corner_table.proofs.Readings.ReadFacts.{attr_equation}
@@ -158,6 +160,10 @@ attr_slot_same t attr c off =
 data Where (t : Lists) (attr c : ℕ) : Type 0 where
   gone : row_at (dropped_attr t attr) c ≡ [] → slot_at (dropped_attr t attr) c ≡ no_slot → Where t attr c
   there : IsApart t attr c → Where t attr c
+
+same-or-none : (t : Lists) (attr c : ℕ) → Where t attr c → (slot_at (dropped_attr t attr) c ≡ slot_at t c) ⊎ (slot_at (dropped_attr t attr) c ≡ no_slot)
+same-or-none t attr c (gone row slot) = inr slot
+same-or-none t attr c (there off) = inl (attr_slot_same t attr c off)
 
 where-is : (t : Lists) (attr c : ℕ) → IsAttrDrop t attr → Where t attr c
 where-is t attr c d =
@@ -340,11 +346,17 @@ said-row t attr l m off name weight scale rel home s =
     home-there l (Held id) = refl
     home-there l (StayOf a) = refl
 
+-- the levels of the stays that are left have the ranks that they had
+rank-left : (t : Lists) (attr b : ℕ) → IsAttrDrop t attr → HasStay t.stays b → b ≢ attr → stay_rank (dropped_attr t attr) b ≡ stay_rank t b
+rank-left t attr b d has ne =
+    ap (λ (x : Slot). x.rank) (attr_slot_same t attr (line_slot t (StayOf b)) (line-apart t attr (StayOf b) d (λ e. ne (stay-same b attr e)) (stay_named (problem_of t) b has)))
+
 attr-slots : (t : Lists) (attr : ℕ) → IsAttrDrop t attr → AreSlots (dropped_attr t attr)
 attr-slots t attr d =
     let s = d.kept.slots in
     let n = count t attr in
     let w : ℕ = attr_slot t attr in
+    let left = all-stays (λ (x : Stay). HasStay t.stays x.attr × (LEVELS ≤ stay_rank t x.attr)) attr t.stays (λ j y within. (own_stay t.stays j y within, s.stay_ranks j y within)) in
     record {
       standings = length-set (slice_set t.standings w no_standing) (w + 1) no_standing ∙ length-set t.standings w no_standing ∙ s.standings ∙ sym n;
       matrix = length-set (slice_set t.matrix w []) (w + 1) [] ∙ length-set t.matrix w [] ∙ s.matrix ∙ sym n;
@@ -359,7 +371,21 @@ attr-slots t attr d =
       owners = λ c is. owned c (where-is t attr c d) is;
       level_owners = λ c lt. ap (λ (x : Slot). x.owner) (attr_slot_same t attr c (level-apart t attr c d lt)) ∙ s.level_owners c lt;
       level_homes = λ c lt. ap (λ (x : Slot). x.home) (attr_slot_same t attr c (level-apart t attr c d lt)) ∙ s.level_homes c lt;
-      stays_rise = AllPairs-filter (λ (x y : Stay). attr_slot t x.attr < attr_slot t y.attr) (other_stay attr) t.stays s.stays_rise;
+      level_ranks = λ c lt. ap (λ (x : Slot). x.rank) (attr_slot_same t attr c (level-apart t attr c d lt)) ∙ s.level_ranks c lt;
+      stay_ranks = λ i x lt.
+          let is = left i x lt in
+          let one = rank-left t attr (slice_index_or (filter (other_stay attr) t.stays) i x).attr d is.0.0 is.1 in
+          let le = is.0.1 in
+          omega (arith, one, le);
+      stays_rise = λ i k x lt within.
+          let a = left i x (omega (arith, lt, within)) in
+          let b = left k x within in
+          let one = rank-left t attr (slice_index_or (filter (other_stay attr) t.stays) i x).attr d a.0.0 a.1 in
+          let two = rank-left t attr (slice_index_or (filter (other_stay attr) t.stays) k x).attr d b.0.0 b.1 in
+          let less = AllPairs-filter (λ (x y : Stay). stay_rank t x.attr < stay_rank t y.attr) (other_stay attr) t.stays s.stays_rise i k x lt within in
+          omega (arith, one, two, less);
+      ranks = ranks_left t.slots (dropped_attr t attr).slots (λ c. same-or-none t attr c (where-is t attr c d)) s.ranks;
+      own_last = last_left t.slots (dropped_attr t attr).slots (λ c. same-or-none t attr c (where-is t attr c d)) s.own_last;
     }
   where
     attr-in : RowName → ℕ

@@ -1,5 +1,5 @@
 -- What the lists keep where a row is taken out.
-use Rattle.std.proofs.Common.{◌≡◌, ◌≢◌, ◌∙◌, ℕ, zero, suc, ◌-◌, ◌*◌, ◌^◌, ◌<◌, ◌≤◌, ◌++◌, Bool, true, false, cond, nat_eq, List, [], ◌∷◌, map, length, length-set, slice_set, refl, sym, ap, ap₂, subst, arith, inl, inr, ℤ, pos, ◌*ℤ◌, ◌+ℤ◌, ◌-ℤ◌, neg_ℤ, ne_eqb, slice_index_or, All, AllPairs, Any, Some, None}
+use Rattle.std.proofs.Common.{◌≡◌, ◌≢◌, ◌∙◌, ◌⊎◌, ℕ, zero, suc, ◌-◌, ◌*◌, ◌^◌, ◌<◌, ◌≤◌, ◌++◌, Bool, true, false, cond, nat_eq, List, [], ◌∷◌, map, length, length-set, slice_set, refl, sym, ap, ap₂, subst, arith, inl, inr, ℤ, pos, ◌*ℤ◌, ◌+ℤ◌, ◌-ℤ◌, neg_ℤ, ne_eqb, slice_index_or, All, AllPairs, Any, Some, None}
 use Rattle.std.specs.declared.option.Option.{Option}
 use Rattle.std.specs.List.{AllByRecursion as Each, filter}
 use Rattle.std.proofs.lemmas.Bool.{cases_eq, cases_lt}
@@ -41,15 +41,17 @@ use Rattle.corner_exchange.specs.Swaps.Exchanges.{IsOutsideSlot}
 use Rattle.corner_writings.specs.Rows.{row_number}
 use Rattle.corner_table.specs.Kept.{AreOutside, AreSlots, AreStored, HasStayRoom, IsAttrRow, IsAttrSlot, IsEquationAt, IsKept, IsLevelKept, IsLineRow, IsLineSlot, IsOwned, IsSlot, home_of, row_count}
 use Rattle.corner.specs.Removals.Leaving.{IsLeaver, IsLevelLeft, marks_left, problem_left}
-use Rattle.corner_table.specs.Tables.{Lists, attr_slot, entry, is_side, line_slot, marks_at, number, priority_at, problem_of, row_at, slot_at, standing_at, stands_in}
+use Rattle.corner_table.specs.Tables.{Lists, attr_slot, entry, is_side, line_slot, marks_at, number, priority_at, problem_of, row_at, slot_at, standing_at, stands_in, stay_rank}
 use Rattle.corner.specs.Views.{IsNamed}
 use Rattle.corner_exchange.proofs.Basics.SmallFacts.{own_name, own_stay}
 use Rattle.corner_writings.proofs.Basics.OwnerFacts.{stay_named}
+use Rattle.problem_core.proofs.RowNames.{held-not-stay}
 use Rattle.corner.proofs.Removals.DroppedLevels.{CountsNothing, other_cost, other_row_is, other_unit}
 use Rattle.corner.proofs.Removals.LeftLists.{all_left, left_whole_problem, outside_back}
 use Rattle.corner_table.proofs.Readings.MarkFacts.{stands_inside}
 use Rattle.corner_writings.proofs.Readings.MovedFacts.{none_some}
 use Rattle.corner_exchange.proofs.Pivots.PairFacts.{named_mark, side-stands}
+use Rattle.corner_table.proofs.Corners.SlotRanks.{last_left, ranks_left}
 use Rattle.corner_table.proofs.Readings.SlotFacts.{any_impl, any_is, named_slot}
 use Rattle.corner_table.proofs.Readings.WritingFacts.{attr_apart, lines_apart}
 use Rattle.frac_core.proofs.Numbers.{zero-or-not as decide_zero}
@@ -165,6 +167,13 @@ drop_slot_same t leaver left c nl = get_or-set_other t.slots leaver.line c no_sl
 pub drop_slot_gone : (t : Lists) (leaver : Leaver) (left : Left) → IsDrop t leaver left → slot_at (dropped t leaver left) leaver.line ≡ no_slot
 drop_slot_gone t leaver left d = get_or-set_at t.slots leaver.line leaver.line no_slot no_slot refl d.going.slot.1
 
+-- each slot is as before, or of nothing
+same-or-none : (t : Lists) (leaver : Leaver) (left : Left) → IsDrop t leaver left → (w : ℕ) → (slot_at (dropped t leaver left) w ≡ slot_at t w) ⊎ (slot_at (dropped t leaver left) w ≡ no_slot)
+same-or-none t leaver left d w = elim (cases_eq w leaver.line) [
+  | inl e ↦ inr (ap (slot_at (dropped t leaver left)) e ∙ drop_slot_gone t leaver left d)
+  | inr ne ↦ inl (drop_slot_same t leaver left w ne)
+]
+
 drop-priority-same : (t : Lists) (leaver : Leaver) (left : Left) (k : ℕ) → IsDrop t leaver left → k ≢ leaver.level → priority_at (dropped t leaver left) k ≡ priority_at t k
 drop-priority-same t leaver left k d ne = get_or-set_other t.priorities left.change.at k (record { unit = left.unit; rows = left.rows }) (record { unit = pos 1; rows = 0 }) (λ e. ne (e ∙ d.level.at_is))
 
@@ -271,6 +280,11 @@ attr-slot-kept t leaver left attr d has s = record {
   owner = ap (λ (x : Slot). x.owner) (drop_slot_same t leaver left (attr_slot t attr) (attr-off t leaver attr d.going has)) ∙ s.owner;
 }
 
+-- the stays' levels have the ranks that they had
+stay-rank-kept : (t : Lists) (leaver : Leaver) (left : Left) (attr : ℕ) → IsDrop t leaver left → HasStay t.stays attr → stay_rank (dropped t leaver left) attr ≡ stay_rank t attr
+stay-rank-kept t leaver left attr d has =
+    ap (λ (x : Slot). x.rank) (drop_slot_same t leaver left (line_slot t (StayOf attr)) (line-off t leaver (StayOf attr) d.going (stay_named (problem_of t) attr has) (λ e. held-not-stay leaver.id attr (sym e))))
+
 line-slot-kept : (t : Lists) (leaver : Leaver) (left : Left) (l : Line) → IsDrop t leaver left → IsNamed (problem_of t) l.name → l.name ≢ Held leaver.id → IsLineSlot t l → IsLineSlot (dropped t leaver left) l
 line-slot-kept t leaver left l d named ne s =
     let same : slot_at (dropped t leaver left) (line_slot t l.name) ≡ slot_at t (line_slot t l.name) = drop_slot_same t leaver left (line_slot t l.name) (line-off t leaver l.name d.going named ne) in
@@ -334,7 +348,18 @@ drop-slots t leaver left d =
       ];
       level_owners = λ w lt. ap (λ (x : Slot). x.owner) (drop_slot_same t leaver left w (λ e. high leaver.line w d.going.slot.0 lt (sym e))) ∙ s.level_owners w lt;
       level_homes = λ w lt. ap (λ (x : Slot). x.home) (drop_slot_same t leaver left w (λ e. high leaver.line w d.going.slot.0 lt (sym e))) ∙ s.level_homes w lt;
-      stays_rise = s.stays_rise;
+      level_ranks = λ w lt. ap (λ (x : Slot). x.rank) (drop_slot_same t leaver left w (λ e. high leaver.line w d.going.slot.0 lt (sym e))) ∙ s.level_ranks w lt;
+      stay_ranks = λ i x lt.
+          let one = stay-rank-kept t leaver left (slice_index_or t.stays i x).attr d (own_stay t.stays i x lt) in
+          let is = s.stay_ranks i x lt in
+          omega (arith, one, is);
+      stays_rise = λ i k x lt within.
+          let one = stay-rank-kept t leaver left (slice_index_or t.stays i x).attr d (own_stay t.stays i x (omega (arith, lt, within))) in
+          let two = stay-rank-kept t leaver left (slice_index_or t.stays k x).attr d (own_stay t.stays k x within) in
+          let less = s.stays_rise i k x lt within in
+          omega (arith, one, two, less);
+      ranks = ranks_left t.slots (dropped t leaver left).slots (same-or-none t leaver left d) s.ranks;
+      own_last = last_left t.slots (dropped t leaver left).slots (same-or-none t leaver left d) s.own_last;
     }
 
 drop-stored : (t : Lists) (leaver : Leaver) (left : Left) → IsDrop t leaver left → AreStored (dropped t leaver left)

@@ -10,7 +10,7 @@ use Rattle.problem_core.specs.Levels.{IsCostAt}
 use Rattle.corner_laws.specs.Units.{IsLevelRow}
 use Rattle.corner_lines.specs.Fronts.{constantless}
 use Rattle.corner_lines.specs.LineEquations.{IsOutsideLine}
-use Rattle.corner_lines.specs.Shifts.{has_constant, with_constant}
+use Rattle.corner_lines.specs.Shifts.{AreSeenAlike, has_constant, with_constant}
 use Rattle.corner_lines.proofs.ProblemChanges.Shifted.{changed, shift_rays}
 use Rattle.corner_table.specs.declared.table.Owner.{Owner}
 use Rattle.corner_table.specs.declared.table.Owner.TheVariants.{Level as LevelSlot, Attr as AttrSlot, Line as LineSlot}
@@ -25,7 +25,7 @@ use Rattle.corner.proofs.Shifts.ShiftCosts.{after_corner, shifted_cost}
 use Rattle.corner.proofs.Shifts.ShiftGrowths.{IsShiftOf, level_grown, shift_here}
 use Rattle.corner.proofs.Shifts.ShiftLines.{fitting_seen, reduced_seen, row_seen_alike, shift_named, shift_seen, shift_whole, unit_seen}
 use Rattle.corner.proofs.Shifts.ShiftValues.{attr_shifted, line_shifted, shift_marks_at}
-use Rattle.corner.proofs.Stays.StoodLines.{AreSeenAlike, each_seen}
+use Rattle.corner.proofs.Stays.StoodLines.{each_seen}
 use Rattle.corner.proofs.Stays.StoodKept.{home_seen, slot_back}
 
 -- ---- slots
@@ -57,7 +57,11 @@ shift_slots t id to standings slots count = record {
   owners = λ w is. owned-after t id to standings w (slot_at t w).owner (slots.owners w is);
   level_owners = slots.level_owners;
   level_homes = slots.level_homes;
+  level_ranks = slots.level_ranks;
+  stay_ranks = slots.stay_ranks;
   stays_rise = slots.stays_rise;
+  ranks = slots.ranks;
+  own_last = slots.own_last;
 }
   where
     u : Lists

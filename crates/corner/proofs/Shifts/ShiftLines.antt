@@ -15,11 +15,11 @@ use Rattle.problem_core.specs.Corners.{IsIn, marks_of, place, place_of}
 use Rattle.problem_core.specs.Levels.{AreFitting}
 use Rattle.corner_laws.specs.Units.{IsLevelRow, IsLevelUnit, IsReducedBy, over_share, under_share}
 use Rattle.corner_lines.specs.Fronts.{constantless}
-use Rattle.corner_lines.specs.Shifts.{has_constant, with_constant}
+use Rattle.corner_lines.specs.Shifts.{AreSeenAlike, has_constant, with_constant}
 use Rattle.corner_lines.proofs.ProblemChanges.Shifted.{changed}
 use Rattle.corner.specs.Views.{AreCandidates, IsNamed}
 use Rattle.corner.proofs.Stays.StoodColumns.{negative_seen}
-use Rattle.corner.proofs.Stays.StoodLines.{AreSeenAlike, any_seen, each_seen, marks_seen, sum_seen}
+use Rattle.corner.proofs.Stays.StoodLines.{any_seen, each_seen, marks_seen, sum_seen}
 use Rattle.corner_lines.proofs.ProblemChanges.ShiftedCorner.{length-same as shift_count}
 
 row_seen : (b : Bool) (f : Fraction) (r : Row) → constantless (line_of_row (cond b (changed f r) r)) ≡ constantless (line_of_row r)

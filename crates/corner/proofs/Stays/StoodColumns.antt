@@ -6,7 +6,8 @@ use Rattle.problem_core.specs.declared.parts.Side.TheVariants.{Under, Over}
 use Rattle.problem_core.specs.Layout.{Problem, coefficient, lines}
 use Rattle.problem_core.specs.Certificates.{Multipliers}
 use Rattle.problem_core.specs.Corners.{AreMultipliersAt, HasNegativeColumn, IsIn, IsLexNegative, column, place, place_of}
-use Rattle.corner.proofs.Stays.StoodLines.{AreSeenAlike, any_seen, each_seen, sum_seen}
+use Rattle.corner_lines.specs.Shifts.{AreSeenAlike}
+use Rattle.corner.proofs.Stays.StoodLines.{any_seen, each_seen, sum_seen}
 
 pub multipliers_seen : (p q : Problem) (at : List Mark) (m : Multipliers) → AreSeenAlike p q → AreMultipliersAt p at m → AreMultipliersAt q at m
 multipliers_seen p q at m same are = record {

@@ -35,7 +35,7 @@ use Rattle.corner_table.specs.declared.table.Owner.TheVariants.{Level as LevelSl
 use Rattle.corner_table.specs.declared.table.Standing.{Standing}
 use Rattle.corner_table.specs.declared.table.TheConstants.{LEVELS}
 use Rattle.corner.specs.Views.{IsMarkOf, IsNamed}
-use Rattle.corner_table.specs.Tables.{Lists, attr_slot, entry, is_side, line_slot, marks_at, number, problem_of, slot_at, standing_at, stands_in}
+use Rattle.corner_table.specs.Tables.{Lists, attr_slot, entry, is_side, line_slot, marks_at, number, problem_of, slot_at, standing_at, stands_in, stay_rank}
 use Rattle.corner_table.specs.Kept.{AreSlots, HasLevelNumbers, IsAttrRow, IsAttrSlot, IsEquationAt, IsKept, IsLevelKept, IsLineRow, IsLineSlot, IsOwned, home_of}
 use Rattle.corner.specs.Shifts.Stood.{HaveFirstStood, IsStoodStay, stay_slot, with_moved}
 use Rattle.corner_exchange.proofs.Basics.SmallFacts.{own_name, own_stay}
@@ -46,7 +46,8 @@ use Rattle.corner_table.proofs.Readings.MarkFacts.{inside_stands}
 use Rattle.corner_table.proofs.Readings.ReadFacts.{named_in, value_attr, value_inside}
 use Rattle.corner_table.proofs.Readings.SlotFacts.{any_is, named_stay}
 use Rattle.corner.proofs.Stays.StoodLevels.{cost_stood}
-use Rattle.corner.proofs.Stays.StoodLines.{AreSeenAlike, any_seen, each_seen, lines_alike, map_same, marks_seen, stay_line, sum_seen}
+use Rattle.corner_lines.specs.Shifts.{AreSeenAlike}
+use Rattle.corner.proofs.Stays.StoodLines.{any_seen, each_seen, lines_alike, map_same, marks_seen, stay_line, sum_seen}
 use Rattle.corner.proofs.Stays.StoodLists.{held_no_stay, level_no_stay, no_first_attr}
 use Rattle.frac_core.proofs.Numbers.{as-natural as above-zero}
 use Rattle.frac_core.proofs.Bools.{not-both as not_both}
@@ -116,12 +117,20 @@ first_slots n t stays standings slots h = record {
   owners = λ w is. owned_after n t stays standings h w (slot_at t w).owner (slots.owners w is);
   level_owners = slots.level_owners;
   level_homes = slots.level_homes;
+  level_ranks = slots.level_ranks;
+  stay_ranks = λ i s lt.
+      let within : i < length t.stays = omega (arith, lt, h.stay_count) in
+      let one = ap (stay_rank t) (attr_same n t stays standings h i s within) in
+      let is = slots.stay_ranks i s within in
+      omega (arith, one, is);
   stays_rise = λ i k s lt within.
       let few : k < length t.stays = omega (arith, within, h.stay_count) in
-      let one = ap (attr_slot t) (attr_same n t stays standings h i s (omega (arith, lt, few))) in
-      let two = ap (attr_slot t) (attr_same n t stays standings h k s few) in
+      let one = ap (stay_rank t) (attr_same n t stays standings h i s (omega (arith, lt, few))) in
+      let two = ap (stay_rank t) (attr_same n t stays standings h k s few) in
       let less = slots.stays_rise i k s lt few in
       omega (arith, one, two, less);
+  ranks = slots.ranks;
+  own_last = slots.own_last;
 }
   where
     u : Lists

@@ -16,7 +16,8 @@ use Rattle.corner_lines.proofs.Costs.LevelPlaces.{cost_everywhere}
 use Rattle.corner_lines.proofs.ProblemChanges.MovedStays.{stood_points}
 use Rattle.corner_table.specs.declared.table.TheConstants.{LEVELS}
 use Rattle.corner_joins.proofs.Attributes.AttrLevels.{free_stay}
-use Rattle.corner.proofs.Stays.StoodLines.{AreSeenAlike, scales_seen}
+use Rattle.corner_lines.specs.Shifts.{AreSeenAlike}
+use Rattle.corner.proofs.Stays.StoodLines.{scales_seen}
 
 -- stays cost nothing at a level before theirs
 pub stays_cost : (s k base : ℕ) (x : ℕ → ℤ) (stays : List Stay) → k < base → sum_of (λ l. pos (s / l.scale) *ℤ line_cost k x l) (stay_lines base stays) ≡ pos 0

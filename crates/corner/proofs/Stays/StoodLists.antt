@@ -17,7 +17,7 @@ use Rattle.corner_table.specs.declared.table.Owner.{Owner}
 use Rattle.corner_table.specs.declared.table.Owner.TheVariants.{Level as LevelSlot, Attr as AttrSlot, Line as LineSlot}
 use Rattle.corner_table.specs.declared.table.Standing.{Standing}
 use Rattle.corner_table.specs.declared.table.TheConstants.{LEVELS}
-use Rattle.corner_table.specs.Tables.{Lists, attr_slot, line_slot, problem_of, slot_at, standing_at}
+use Rattle.corner_table.specs.Tables.{Lists, attr_slot, line_slot, problem_of, slot_at, standing_at, stay_rank}
 use Rattle.corner_table.specs.Kept.{AreSlots, IsKept, IsLineSlot}
 use Rattle.corner_table.specs.Joining.{at_zero}
 use Rattle.corner.specs.Shifts.Stood.{HaveFirstStood, IsNoFirst, IsStoodStay, at_present, at_rest, stay_slot, with_moved}
@@ -70,8 +70,9 @@ first_apart : (t : Lists) (i n : ℕ) (s r : Stay) → AreSlots t → i < n → 
 first_apart t i n s r h lt within e =
     let less = h.stays_rise i n s lt within in
     let same : slice_index_or t.stays n s ≡ slice_index_or t.stays n r = get_or_default t.stays n s r within in
-    let at = ap (λ (x : Stay). attr_slot t x.attr) same in
-    absurd (omega (arith, less, e, at))
+    let at = ap (λ (x : Stay). stay_rank t x.attr) same in
+    let slot : stay_rank t (slice_index_or t.stays i s).attr ≡ stay_rank t (slice_index_or t.stays n r).attr = ap (λ (w : ℕ). (slot_at t w).rank) e in
+    absurd (omega (arith, less, slot, at))
 
 -- ---- at 0
 

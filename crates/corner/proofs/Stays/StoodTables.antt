@@ -17,7 +17,8 @@ use Rattle.corner.specs.Shifts.Stood.{AreFirstStood, IsStoodAt, stay_slot, with_
 use Rattle.corner.proofs.Attributes.CornerAttrs.{alike_same, past_same}
 use Rattle.corner.proofs.Stays.StoodColumns.{negative_seen}
 use Rattle.corner.proofs.Stays.StoodKept.{attr_same, first_slots, have_stood, named_after, seen_alike, stood_kept, stood_marks}
-use Rattle.corner.proofs.Stays.StoodLines.{AreSeenAlike, marks_seen}
+use Rattle.corner_lines.specs.Shifts.{AreSeenAlike}
+use Rattle.corner.proofs.Stays.StoodLines.{marks_seen}
 use Rattle.corner.proofs.Stays.StoodLists.{one_moves, one_rests}
 
 -- ---- the loop

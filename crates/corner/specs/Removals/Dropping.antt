@@ -16,7 +16,7 @@ use Rattle.corner_table.specs.Tables.{Lists, attr_slot, problem_of, row_at, stan
 
 -- of nothing
 abbrev pub no_slot : Slot
-no_slot = record { owner = LevelSlot; home = 0; weight = pos 1; scale = pos 1; rel = Eq }
+no_slot = record { owner = LevelSlot; home = 0; rank = 0; weight = pos 1; scale = pos 1; rel = Eq }
 
 -- the slot is of nothing
 abbrev pub freed : Lists → ℕ → Lists

@@ -27,6 +27,7 @@ pub(crate) fn free_slot(table: &mut Table, w: u32) -> Result<(), OutOfMemory>
     let slot = Slot {
         owner: Owner::Level,
         home: 0,
+        rank: 0,
         weight: 1,
         scale: 1,
         rel: Rel::Eq,

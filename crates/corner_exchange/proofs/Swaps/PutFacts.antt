@@ -33,7 +33,11 @@ standing_slots t w standing h = record {
   owners = h.owners;
   level_owners = h.level_owners;
   level_homes = h.level_homes;
+  level_ranks = h.level_ranks;
+  stay_ranks = h.stay_ranks;
   stays_rise = h.stays_rise;
+  ranks = h.ranks;
+  own_last = h.own_last;
 }
 
 pub row_slots : (t : Lists) (w : ℕ) (row : List Term) → AreSlots t → AreSlots (with_row t w row)
@@ -55,7 +59,11 @@ row_slots t w row h = record {
   owners = h.owners;
   level_owners = h.level_owners;
   level_homes = h.level_homes;
+  level_ranks = h.level_ranks;
+  stay_ranks = h.stay_ranks;
   stays_rise = h.stays_rise;
+  ranks = h.ranks;
+  own_last = h.own_last;
 }
 
 pub change_slots : (t : Lists) (change : Change) → AreSlots t → AreSlots (with_change t change)

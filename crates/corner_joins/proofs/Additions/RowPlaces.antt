@@ -1,5 +1,5 @@
 -- The slots and marks of the lists where a row has been pushed.
-use Rattle.std.proofs.Common.{◌≡◌, ◌≢◌, ◌∙◌, ◌⊎◌, ℕ, zero, suc, ◌<◌, ◌≤◌, ◌++◌, Bool, true, false, cond, List, [], ◌∷◌, map, filter, length, refl, sym, ap, subst, arith, inl, inr, pos, slice_index_or, All, Any, Some, None}
+use Rattle.std.proofs.Common.{◌≡◌, ◌≢◌, ◌∙◌, ◌⊎◌, ℕ, zero, suc, ◌+◌, ◌<◌, ◌≤◌, ◌++◌, Bool, true, false, cond, List, [], ◌∷◌, map, filter, length, refl, sym, ap, subst, arith, inl, inr, pos, slice_index_or, All, Any, Some, None}
 use Rattle.std.specs.List.{AllByRecursion as Each}
 use Rattle.std.proofs.lemmas.List.{get_or_push, length_push}
 use Rattle.std.proofs.lemmas.List.Elements.{All-push, All-from_recursion, recursion_from_All}
@@ -12,7 +12,7 @@ use Rattle.problem_core.specs.declared.parts.Side.{Side}
 use Rattle.problem_core.specs.declared.parts.Side.TheVariants.{Under, Over}
 use Rattle.problem_core.specs.declared.parts.RowName.{RowName}
 use Rattle.problem_core.specs.declared.parts.RowName.TheVariants.{Held, Stay as StayOf}
-use Rattle.problem_core.specs.Layout.{Line, Problem, Row, line_of_row, lines, stay_lines}
+use Rattle.problem_core.specs.Layout.{HasStay, Line, Problem, Row, line_of_row, lines, stay_lines}
 use Rattle.problem_core.specs.Kept.{IsRow, IsWhole}
 use Rattle.problem_core.specs.Corners.{IsIn, SameMarks, marks_of, place, place_of}
 use Rattle.corner_laws.proofs.MarkWritings.Lifts.{each_drop, each_put}
@@ -24,16 +24,18 @@ use Rattle.corner_table.specs.declared.table.Slot.{Slot}
 use Rattle.corner_table.specs.declared.table.Standing.{Standing}
 use Rattle.corner_table.specs.declared.table.TheConstants.{LEVELS}
 use Rattle.corner_table.specs.Views.{IsNamed}
-use Rattle.corner_table.specs.Tables.{Lists, attr_slot, is_side, line_slot, marks_at, problem_of, row_at, slot_at, standing_at, stands_in}
+use Rattle.corner_table.specs.Tables.{Lists, attr_slot, is_side, line_slot, marks_at, problem_of, row_at, slot_at, standing_at, stands_in, stay_rank}
 use Rattle.corner_table.specs.Kept.{AreSlots, IsAttrSlot, IsLineSlot, IsOwned}
 use Rattle.corner_joins.specs.Additions.Parts.{IsPartlyKept}
 use Rattle.corner_table.specs.Joining.{IsNumbered, slot_of_row}
 use Rattle.corner_joins.specs.Additions.RowSums.{with_pushed}
 use Rattle.corner_joins.proofs.Attributes.AttrJoins.{home_same}
-use Rattle.corner_exchange.proofs.Basics.SmallFacts.{own_name}
+use Rattle.corner_exchange.proofs.Basics.SmallFacts.{own_name, own_stay}
 use Rattle.corner_table.proofs.Readings.MarkFacts.{stands_inside}
 use Rattle.corner_table.proofs.Corners.NewTables.{less_or}
+use Rattle.corner_table.proofs.Corners.SlotRanks.{last_pushed, ranks_pushed}
 use Rattle.corner_table.proofs.Readings.SlotFacts.{any_is, named_slot}
+use Rattle.corner_writings.proofs.Basics.OwnerFacts.{stay_named}
 use Rattle.corner_table.proofs.Readings.ReadFacts.{named_in as mark_of_line, same_is as one_side}
 use Rattle.corner_writings.proofs.Basics.SmallFacts.{self_side}
 
@@ -93,10 +95,10 @@ other_name p r name whole named e =
 -- ---- by slot
 
 pub old_slot : (t : Lists) (r : Row) (v : Standing) (o : List Term) (a : List ℕ) (w : ℕ) → w < length t.slots → slot_at (with_pushed r v o a t) w ≡ slot_at t w
-old_slot t r v o a w lt = get_or-append t.slots (slot_of_row r ∷ []) (record { owner = LevelSlot; home = 0; weight = pos 1; scale = pos 1; rel = Eq }) w lt
+old_slot t r v o a w lt = get_or-append t.slots (slot_of_row r ∷ []) (record { owner = LevelSlot; home = 0; rank = 0; weight = pos 1; scale = pos 1; rel = Eq }) w lt
 
 pub row_place : (t : Lists) (r : Row) (v : Standing) (o : List Term) (a : List ℕ) → slot_at (with_pushed r v o a t) (length t.slots) ≡ slot_of_row r
-row_place t r v o a = get_or_push t.slots (slot_of_row r) (record { owner = LevelSlot; home = 0; weight = pos 1; scale = pos 1; rel = Eq }) (length t.slots) refl
+row_place t r v o a = get_or_push t.slots (slot_of_row r) (record { owner = LevelSlot; home = 0; rank = 0; weight = pos 1; scale = pos 1; rel = Eq }) (length t.slots) refl
 
 pub old_standing : (t : Lists) (r : Row) (v : Standing) (o : List Term) (a : List ℕ) (w : ℕ) → AreSlots t → w < length t.slots → standing_at (with_pushed r v o a t) w ≡ standing_at t w
 old_standing t r v o a w s lt =
@@ -153,6 +155,10 @@ new_line_slot t r v o a j =
       rel = ap (λ (x : Slot). x.rel) slot;
     }
 
+-- the stays' levels have the ranks that they had
+rank_kept : (t : Lists) (r : Row) (v : Standing) (o : List Term) (a : List ℕ) (b : ℕ) → IsNext t r a → HasStay t.stays b → stay_rank (with_pushed r v o a t) b ≡ stay_rank t b
+rank_kept t r v o a b j has = ap (λ (x : Slot). x.rank) (old_slot t r v o a (attr_slot t b + 1) (named_slot t (StayOf b) j.slots (stay_named (problem_of t) b has)).1)
+
 attr_slot_kept : (t : Lists) (r : Row) (v : Standing) (o : List Term) (a : List ℕ) (b : ℕ) → IsAttrSlot t b → IsAttrSlot (with_pushed r v o a t) b
 attr_slot_kept t r v o a b s =
     let n = length_push t.slots (slot_of_row r) in
@@ -190,7 +196,18 @@ slots_pushed t r v o a j =
       owners = λ w h. owned_at t r v o a w j h.0 (less_or (length t.slots) w (omega (arith, n, h.1)));
       level_owners = λ w lt. ap (λ (x : Slot). x.owner) (old_slot t r v o a w (omega (arith, lt, s.levels))) ∙ s.level_owners w lt;
       level_homes = λ w lt. ap (λ (x : Slot). x.home) (old_slot t r v o a w (omega (arith, lt, s.levels))) ∙ s.level_homes w lt;
-      stays_rise = s.stays_rise;
+      level_ranks = λ w lt. ap (λ (x : Slot). x.rank) (old_slot t r v o a w (omega (arith, lt, s.levels))) ∙ s.level_ranks w lt;
+      stay_ranks = λ k x lt.
+          let one = rank_kept t r v o a (slice_index_or t.stays k x).attr j (own_stay t.stays k x lt) in
+          let is = s.stay_ranks k x lt in
+          omega (arith, one, is);
+      stays_rise = λ i k x lt within.
+          let one = rank_kept t r v o a (slice_index_or t.stays i x).attr j (own_stay t.stays i x (omega (arith, lt, within))) in
+          let two = rank_kept t r v o a (slice_index_or t.stays k x).attr j (own_stay t.stays k x within) in
+          let less = s.stays_rise i k x lt within in
+          omega (arith, one, two, less);
+      ranks = ranks_pushed t.slots (slot_of_row r) s.ranks (omega arith);
+      own_last = last_pushed t.slots (slot_of_row r) s.ranks s.own_last (λ (none : ⊥). absurd none);
     }
 
 -- ---- marks

@@ -26,16 +26,18 @@ use Rattle.corner_table.specs.declared.table.Owner.{Owner}
 use Rattle.corner_table.specs.declared.table.Owner.TheVariants.{Level as LevelSlot, Attr as AttrSlot, Line as LineSlot}
 use Rattle.corner_table.specs.declared.table.Slot.{Slot}
 use Rattle.corner_table.specs.declared.table.Standing.{Standing}
-use Rattle.corner_table.specs.declared.table.TheConstants.{LEVELS}
+use Rattle.corner_table.specs.declared.table.TheConstants.{LEVELS, OWN_RANK}
 use Rattle.corner_table.specs.Views.{IsNamed}
-use Rattle.corner_table.specs.Tables.{Lists, attr_slot, entry, is_side, line_slot, marks_at, number, problem_of, row_at, slot_at, standing_at, stands_in}
+use Rattle.corner_table.specs.Tables.{Lists, attr_slot, entry, is_side, line_slot, marks_at, number, problem_of, row_at, slot_at, standing_at, stands_in, stay_rank}
 use Rattle.corner_table.specs.Kept.{AreOutside, AreSlots, IsAttrRow, IsAttrSlot, IsEquationAt, IsKept, IsLineRow, IsLineSlot, IsOwned, IsSlot, home_of}
 use Rattle.corner_table.specs.Joining.{IsNumbered, IsStayForm, at_value, at_zero, slot_of_attr, slot_of_stay}
 use Rattle.corner_table.proofs.Readings.SlotFacts.{named_slot, named_stay}
 use Rattle.corner_table.proofs.Corners.NewTables.{less_or}
+use Rattle.corner_table.proofs.Corners.SlotRanks.{last_pushed, ranks_pushed}
 use Rattle.corner_lines.proofs.FrontsStay.{stays-more, regrouped}
 use Rattle.corner_writings.proofs.Basics.SmallFacts.{zero_unless}
 use Rattle.corner_exchange.proofs.Basics.SmallFacts.{own_name, own_stay}
+use Rattle.corner_writings.proofs.Basics.OwnerFacts.{stay_named}
 use Rattle.corner_exchange.proofs.Basics.SameEquations.{same_numbers}
 
 -- ---- two more in a list
@@ -86,16 +88,16 @@ pub record IsJoin (t : Lists) (attr : ℕ) (target : Fraction) (m : List (List T
 -- ---- slots
 
 abbrev pub nowhere : Slot
-nowhere = record { owner = LevelSlot; home = 0; weight = pos 1; scale = pos 1; rel = Eq }
+nowhere = record { owner = LevelSlot; home = 0; rank = 0; weight = pos 1; scale = pos 1; rel = Eq }
 
 pub old_slot : (t : Lists) (attr : ℕ) (target : Fraction) (m : List (List Term)) (a : List ℕ) (w : ℕ) → w < length t.slots → slot_at (joined t attr target m a) w ≡ slot_at t w
-old_slot t attr target m a w lt = old_two t.slots (slot_of_attr attr (length t.slots)) (slot_of_stay attr (length t.slots + 1)) (record { owner = LevelSlot; home = 0; weight = pos 1; scale = pos 1; rel = Eq }) w lt
+old_slot t attr target m a w lt = old_two t.slots (slot_of_attr attr (length t.slots)) (slot_of_stay attr (length t.slots + 1)) (record { owner = LevelSlot; home = 0; rank = 0; weight = pos 1; scale = pos 1; rel = Eq }) w lt
 
 pub attr_place : (t : Lists) (attr : ℕ) (target : Fraction) (m : List (List Term)) (a : List ℕ) → slot_at (joined t attr target m a) (length t.slots) ≡ slot_of_attr attr (length t.slots)
-attr_place t attr target m a = first_two t.slots (slot_of_attr attr (length t.slots)) (slot_of_stay attr (length t.slots + 1)) (record { owner = LevelSlot; home = 0; weight = pos 1; scale = pos 1; rel = Eq })
+attr_place t attr target m a = first_two t.slots (slot_of_attr attr (length t.slots)) (slot_of_stay attr (length t.slots + 1)) (record { owner = LevelSlot; home = 0; rank = 0; weight = pos 1; scale = pos 1; rel = Eq })
 
 pub stay_place : (t : Lists) (attr : ℕ) (target : Fraction) (m : List (List Term)) (a : List ℕ) → slot_at (joined t attr target m a) (length t.slots + 1) ≡ slot_of_stay attr (length t.slots + 1)
-stay_place t attr target m a = second_two t.slots (slot_of_attr attr (length t.slots)) (slot_of_stay attr (length t.slots + 1)) (record { owner = LevelSlot; home = 0; weight = pos 1; scale = pos 1; rel = Eq })
+stay_place t attr target m a = second_two t.slots (slot_of_attr attr (length t.slots)) (slot_of_stay attr (length t.slots + 1)) (record { owner = LevelSlot; home = 0; rank = 0; weight = pos 1; scale = pos 1; rel = Eq })
 
 pub old_standing : (t : Lists) (attr : ℕ) (target : Fraction) (m : List (List Term)) (a : List ℕ) (w : ℕ) → AreSlots t → w < length t.slots → standing_at (joined t attr target m a) w ≡ standing_at t w
 old_standing t attr target m a w s lt =
@@ -235,27 +237,43 @@ where_past n w (inr e) = inr (inr e)
 pub where_is : (n w : ℕ) → w < n + 2 → (w < n) ⊎ ((w ≡ n) ⊎ (w ≡ n + 1))
 where_is n w h = where_past n w (less_or (n + 1) w (omega (arith, h)))
 
--- each attribute before has an earlier slot
-pub rise_same : (t : Lists) (attr : ℕ) (target : Fraction) (m : List (List Term)) (a : List ℕ) → IsJoin t attr target m a → AllPairs (λ (s r : Stay). attr_slot (joined t attr target m a) s.attr < attr_slot (joined t attr target m a) r.attr) t.stays
+-- the level of each attribute before has the rank that it had
+pub rank_same : (t : Lists) (attr : ℕ) (target : Fraction) (m : List (List Term)) (a : List ℕ) (b : ℕ) → IsJoin t attr target m a → HasStay t.stays b → stay_rank (joined t attr target m a) b ≡ stay_rank t b
+rank_same t attr target m a b j is =
+    ap (λ (w : ℕ). (slot_at (joined t attr target m a) (w + 1)).rank) (old_attr t attr target m a b j is)
+    ∙ ap (λ (x : Slot). x.rank) (old_slot t attr target m a (attr_slot t b + 1) (named_slot t (StayOf b) j.kept.slots (stay_named (problem_of t) b is)).1)
+
+-- that of the new one is its own
+pub rank_here : (t : Lists) (attr : ℕ) (target : Fraction) (m : List (List Term)) (a : List ℕ) → IsJoin t attr target m a → stay_rank (joined t attr target m a) attr ≡ OWN_RANK + (length t.slots + 1)
+rank_here t attr target m a j =
+    ap (λ (w : ℕ). (slot_at (joined t attr target m a) (w + 1)).rank) j.attrs.here
+    ∙ ap (λ (x : Slot). x.rank) (stay_place t attr target m a)
+
+-- each attribute before has a lower rank
+pub rise_same : (t : Lists) (attr : ℕ) (target : Fraction) (m : List (List Term)) (a : List ℕ) → IsJoin t attr target m a → AllPairs (λ (s r : Stay). stay_rank (joined t attr target m a) s.attr < stay_rank (joined t attr target m a) r.attr) t.stays
 rise_same t attr target m a j i k d lt within =
-    let one = old_attr t attr target m a (slice_index_or t.stays i d).attr j (own_stay t.stays i d (omega (arith, lt, within))) in
-    let two = old_attr t attr target m a (slice_index_or t.stays k d).attr j (own_stay t.stays k d within) in
+    let one = rank_same t attr target m a (slice_index_or t.stays i d).attr j (own_stay t.stays i d (omega (arith, lt, within))) in
+    let two = rank_same t attr target m a (slice_index_or t.stays k d).attr j (own_stay t.stays k d within) in
     let less = j.kept.slots.stays_rise i k d lt within in
     omega (arith, one, two, less)
 
-pub rising_joined : (t : Lists) (attr : ℕ) (target : Fraction) (m : List (List Term)) (a : List ℕ) → IsJoin t attr target m a → AllPairs (λ (s r : Stay). attr_slot (joined t attr target m a) s.attr < attr_slot (joined t attr target m a) r.attr) (t.stays ++ (new_stay attr target ∷ []))
+pub rising_joined : (t : Lists) (attr : ℕ) (target : Fraction) (m : List (List Term)) (a : List ℕ) → IsJoin t attr target m a → AllPairs (λ (s r : Stay). stay_rank (joined t attr target m a) s.attr < stay_rank (joined t attr target m a) r.attr) (t.stays ++ (new_stay attr target ∷ []))
 rising_joined t attr target m a j =
-    all_pairs_push (λ (s r : Stay). attr_slot (joined t attr target m a) s.attr < attr_slot (joined t attr target m a) r.attr) t.stays (new_stay attr target) (rise_same t attr target m a j)
+    all_pairs_push (λ (s r : Stay). stay_rank (joined t attr target m a) s.attr < stay_rank (joined t attr target m a) r.attr) t.stays (new_stay attr target) (rise_same t attr target m a j)
     (λ k d lt.
-    let one = old_attr t attr target m a (slice_index_or t.stays k d).attr j (own_stay t.stays k d lt) in
-    let is = j.kept.slots.attrs k d lt in
-    omega (arith, one, is.slot.1, j.attrs.here))
+    let one = rank_same t attr target m a (slice_index_or t.stays k d).attr j (own_stay t.stays k d lt) in
+    let most = j.kept.slots.ranks (attr_slot t (slice_index_or t.stays k d).attr + 1) in
+    let within = (named_slot t (StayOf (slice_index_or t.stays k d).attr) j.kept.slots (stay_named (problem_of t) (slice_index_or t.stays k d).attr (own_stay t.stays k d lt))).1 in
+    let here = rank_here t attr target m a j in
+    omega (arith, one, most, within, here))
 
 pub slots_joined : (t : Lists) (attr : ℕ) (target : Fraction) (m : List (List Term)) (a : List ℕ) → IsJoin t attr target m a → AreSlots (joined t attr target m a)
 slots_joined t attr target m a j =
     let s = j.kept.slots in
     let n = count_two t.slots (slot_of_attr attr (length t.slots)) (slot_of_stay attr (length t.slots + 1)) in
     let v = count_two t.standings (at_value target) at_zero in
+    let one = length_push t.slots (slot_of_attr attr (length t.slots)) in
+    let attr-ranks = ranks_pushed t.slots (slot_of_attr attr (length t.slots)) s.ranks (omega arith) in
     record {
       standings = omega (arith, n, v, s.standings);
       matrix = omega (arith, n, j.count, s.matrix);
@@ -273,7 +291,17 @@ slots_joined t attr target m a j =
       owners = λ w h. owned_at t attr target m a w j h.0 (where_is (length t.slots) w (subst (λ (k : ℕ). w < k) n h.1));
       level_owners = λ w lt. ap (λ (x : Slot). x.owner) (old_slot t attr target m a w (omega (arith, lt, s.levels))) ∙ s.level_owners w lt;
       level_homes = λ w lt. ap (λ (x : Slot). x.home) (old_slot t attr target m a w (omega (arith, lt, s.levels))) ∙ s.level_homes w lt;
+      level_ranks = λ w lt. ap (λ (x : Slot). x.rank) (old_slot t attr target m a w (omega (arith, lt, s.levels))) ∙ s.level_ranks w lt;
+      stay_ranks = All-push (λ (x : Stay). LEVELS ≤ stay_rank (joined t attr target m a) x.attr) t.stays (new_stay attr target)
+          (λ k x lt.
+          let one = rank_same t attr target m a (slice_index_or t.stays k x).attr j (own_stay t.stays k x lt) in
+          let is = s.stay_ranks k x lt in
+          omega (arith, one, is))
+          (let here = rank_here t attr target m a j in omega (arith, here, s.levels));
       stays_rise = rising_joined t attr target m a j;
+      ranks = ranks_pushed (t.slots ++ (slot_of_attr attr (length t.slots) ∷ [])) (slot_of_stay attr (length t.slots + 1)) attr-ranks (omega (arith, one));
+      own_last = last_pushed (t.slots ++ (slot_of_attr attr (length t.slots) ∷ [])) (slot_of_stay attr (length t.slots + 1)) attr-ranks
+          (last_pushed t.slots (slot_of_attr attr (length t.slots)) s.ranks s.own_last (λ (none : ⊥). absurd none)) (λ stay. omega (arith, one));
     }
 
 -- ---- marks

@@ -85,7 +85,11 @@ cost-slots t l row value unit h = record {
   owners = h.owners;
   level_owners = h.level_owners;
   level_homes = h.level_homes;
+  level_ranks = h.level_ranks;
+  stay_ranks = h.stay_ranks;
   stays_rise = h.stays_rise;
+  ranks = h.ranks;
+  own_last = h.own_last;
 }
 
 -- an equation by its row and the marks

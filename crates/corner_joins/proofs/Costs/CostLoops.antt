@@ -122,7 +122,7 @@ part_row t w kept = elim (cases_lt w (length t.matrix)) [
 -- what was listed is
 still-listed : (t u : Lists) (old new : List ℕ) (w : ℕ) → u.slots ≡ t.slots → row_at u w ≡ row_at t w → (standing_at u w).side ≡ (standing_at t w).side → ((c : ℕ) → Contains old c → Contains new c) → IsLineListed t old w → IsLineListed u new w
 still-listed t u old new w slots row side keeps (inl free) =
-    inl (λ s e n. ap (λ (xs : List Slot). side_share (slice_index_or xs w (record { owner = LevelSlot; home = 0; weight = pos 1; scale = pos 1; rel = Eq })).rel s n) slots ∙ free s (sym side ∙ e) n)
+    inl (λ s e n. ap (λ (xs : List Slot). side_share (slice_index_or xs w (record { owner = LevelSlot; home = 0; rank = 0; weight = pos 1; scale = pos 1; rel = Eq })).rel s n) slots ∙ free s (sym side ∙ e) n)
 still-listed t u old new w slots row side keeps (inr has) = inr (λ c up ne h. keeps c (has c up ne (subst (HasColumn c) row h)))
 
 pub one_joined : (done : List Row) (t0 t u : Lists) (listed0 old new : List ℕ) (r : Row) → IsPartlyKept t → IsPartlyKept u → (j : IsJoining t r (line_slot t (Held r.id))) → IsCostJoined t (line_slot t (Held r.id)) u → IsNextListed u (line_slot t (Held r.id)) old new

@@ -1,5 +1,5 @@
 -- The lists of no attribute and no row.
-use Rattle.std.proofs.Common.{◌≡◌, ◌∙◌, ◌⊎◌, ℕ, zero, suc, ◌<◌, ◌++◌, cond, nat_eq, List, [], ◌∷◌, length, refl, sym, ap, subst, arith, ℤ, pos, None, slice_index_or, inl, inr}
+use Rattle.std.proofs.Common.{◌≡◌, ◌∙◌, ◌⊎◌, ℕ, zero, suc, ◌<◌, ◌≤◌, ◌++◌, cond, nat_eq, List, [], ◌∷◌, length, refl, sym, ap, subst, arith, ℤ, pos, None, slice_index_or, inl, inr}
 use Rattle.std.proofs.lemmas.List.{get_or_default, get_or_push, length_push}
 use Rattle.std.proofs.Math.ListN.{get_or-append}
 use Rattle.frac_core.specs.Fraction.{Fraction}
@@ -33,7 +33,7 @@ push_keeps P (x ∷ xs) y d (suc w) new old = push_keeps P xs y d w new old
 -- ---- the levels' slots
 
 abbrev none_slot : Slot
-none_slot = record { owner = LevelSlot; home = 0; weight = pos 1; scale = pos 1; rel = Eq }
+none_slot = record { owner = LevelSlot; home = 0; rank = 0; weight = pos 1; scale = pos 1; rel = Eq }
 
 abbrev none_standing : Standing
 none_standing = record { side = None; value = zero_fraction }
@@ -43,7 +43,7 @@ none_priority = record { unit = pos 1; rows = 0 }
 
 pub slot_count : (n : ℕ) → length (levels_below n).slots ≡ n
 slot_count zero = refl
-slot_count (suc n) = omega (arith, length_push (levels_below n).slots (record { owner = LevelSlot; home = n; weight = pos 1; scale = pos 1; rel = Eq }), slot_count n)
+slot_count (suc n) = omega (arith, length_push (levels_below n).slots (record { owner = LevelSlot; home = n; rank = n; weight = pos 1; scale = pos 1; rel = Eq }), slot_count n)
 
 standing_count : (n : ℕ) → length (levels_below n).standings ≡ n
 standing_count zero = refl
@@ -71,7 +71,7 @@ level_priority (suc n) w = push_keeps (λ (s : Priority). s ≡ none_priority) (
 
 level_owner : (n w : ℕ) → (slot_at (levels_below n) w).owner ≡ LevelSlot
 level_owner zero w = refl
-level_owner (suc n) w = push_keeps (λ (s : Slot). s.owner ≡ LevelSlot) (levels_below n).slots (record { owner = LevelSlot; home = n; weight = pos 1; scale = pos 1; rel = Eq }) none_slot w refl (level_owner n w)
+level_owner (suc n) w = push_keeps (λ (s : Slot). s.owner ≡ LevelSlot) (levels_below n).slots (record { owner = LevelSlot; home = n; rank = n; weight = pos 1; scale = pos 1; rel = Eq }) none_slot w refl (level_owner n w)
 
 lift_or : (n w : ℕ) → (w < n) ⊎ (w ≡ n) → (suc w < suc n) ⊎ (suc w ≡ suc n)
 lift_or n w (inl h) = inl (omega (arith, h))
@@ -84,7 +84,7 @@ less_or (suc n) zero h = inl (omega arith)
 less_or (suc n) (suc w) h = lift_or n w (less_or n w (omega (arith, h)))
 
 abbrev level_slot : ℕ → Slot
-level_slot n = record { owner = LevelSlot; home = n; weight = pos 1; scale = pos 1; rel = Eq }
+level_slot n = record { owner = LevelSlot; home = n; rank = n; weight = pos 1; scale = pos 1; rel = Eq }
 
 home_at : (n w : ℕ) → (w < n → (slot_at (levels_below n) w).home ≡ w) → (w < n) ⊎ (w ≡ n) → (slot_at (levels_below (suc n)) w).home ≡ w
 home_at n w old (inl lt) = ap (λ (s : Slot). s.home) (get_or-append (levels_below n).slots (level_slot n ∷ []) none_slot w (omega (arith, lt, slot_count n))) ∙ old lt
@@ -93,6 +93,18 @@ home_at n w old (inr e) = ap (λ (s : Slot). s.home) (get_or_push (levels_below 
 level_home : (n w : ℕ) → w < n → (slot_at (levels_below n) w).home ≡ w
 level_home zero w h = absurd (omega (arith, h))
 level_home (suc n) w h = home_at n w (λ lt. level_home n w lt) (less_or n w h)
+
+rank_at : (n w : ℕ) → (w < n → (slot_at (levels_below n) w).rank ≡ w) → (w < n) ⊎ (w ≡ n) → (slot_at (levels_below (suc n)) w).rank ≡ w
+rank_at n w old (inl lt) = ap (λ (s : Slot). s.rank) (get_or-append (levels_below n).slots (level_slot n ∷ []) none_slot w (omega (arith, lt, slot_count n))) ∙ old lt
+rank_at n w old (inr e) = ap (λ (s : Slot). s.rank) (get_or_push (levels_below n).slots (level_slot n) none_slot w (omega (arith, e, slot_count n))) ∙ sym e
+
+level_rank : (n w : ℕ) → w < n → (slot_at (levels_below n) w).rank ≡ w
+level_rank zero w h = absurd (omega (arith, h))
+level_rank (suc n) w h = rank_at n w (λ lt. level_rank n w lt) (less_or n w h)
+
+rank_least : (n w : ℕ) → n ≤ LEVELS → (slot_at (levels_below n) w).rank < LEVELS
+rank_least zero w h = omega arith
+rank_least (suc n) w h = push_keeps (λ (s : Slot). s.rank < LEVELS) (levels_below n).slots (level_slot n) none_slot w (omega (arith, h)) (rank_least n w (omega (arith, h)))
 
 -- ---- what they keep
 
@@ -187,6 +199,8 @@ record AreLevels (n : ℕ) (t : Lists) : Type 0 where
   priority : (w : ℕ) → priority_at t w ≡ none_priority
   owner : (w : ℕ) → (slot_at t w).owner ≡ LevelSlot
   home : (w : ℕ) → w < n → (slot_at t w).home ≡ w
+  rank : (w : ℕ) → w < n → (slot_at t w).rank ≡ w
+  least : (w : ℕ) → (slot_at t w).rank < LEVELS
 
 bare_slots : (n : ℕ) (t : Lists) → n ≡ LEVELS → AreLevels n t → AreSlots (bare t)
 bare_slots n t e h = record {
@@ -200,7 +214,11 @@ bare_slots n t e h = record {
   owners = λ w s. absurd (omega (arith, s, e, h.slots));
   level_owners = λ w lt. h.owner w;
   level_homes = λ w lt. h.home w (omega (arith, lt, e));
+  level_ranks = λ w lt. h.rank w (omega (arith, lt, e));
+  stay_ranks = λ k x lt. absurd (omega (arith, lt));
   stays_rise = λ i j d lt within. absurd (omega (arith, within));
+  ranks = λ w. let low = h.least w in omega (arith, low);
+  own_last = λ v w lt one two own. let low = h.least v in absurd (omega (arith, low, own));
 }
 
 bare_kept : (n : ℕ) (t : Lists) → n ≡ LEVELS → AreLevels n t → IsKept (bare t)
@@ -219,8 +237,8 @@ bare_kept n t e h = record {
   stay_levels = λ k x lt. absurd (omega (arith, lt));
 }
 
-are_levels : (n : ℕ) → AreLevels n (levels_below n)
-are_levels n = record {
+are_levels : (n : ℕ) → n ≤ LEVELS → AreLevels n (levels_below n)
+are_levels n few = record {
   slots = slot_count n;
   standings = standing_count n;
   matrix = matrix_count n;
@@ -230,10 +248,12 @@ are_levels n = record {
   priority = level_priority n;
   owner = level_owner n;
   home = level_home n;
+  rank = level_rank n;
+  least = λ w. rank_least n w few;
 }
 
 pub levels_kept : (n : ℕ) → n ≡ LEVELS → IsKept (levels_below n)
-levels_kept n e = subst IsKept (sym (levels_bare n)) (bare_kept n (levels_below n) e (are_levels n))
+levels_kept n e = subst IsKept (sym (levels_bare n)) (bare_kept n (levels_below n) e (are_levels n (omega (arith, e))))
 
 pub levels_rows : (n : ℕ) → (levels_below n).rows ≡ []
 levels_rows n = ap (λ (t : Lists). t.rows) (levels_bare n)

@@ -122,15 +122,16 @@ reduced_at t l w side =
 abbrev pub HasReducedAt : Lists → ℕ → Side → ℕ → Type 0
 HasReducedAt t w side l = HasCost t l × (reduced_at t l w side ≢ pos 0)
 
--- the first slot of a level at which the mark has a reduced cost
+-- the slot of the strongest level at which the mark has a reduced cost
 pub record IsFirstSlot (t : Lists) (w : ℕ) (side : Side) (l : ℕ) : Type 0 where
   pub there : HasReducedAt t w side l
-  pub first : (m : ℕ) → m < l → HasReducedAt t w side m → ⊥
+  pub first : (m : ℕ) → (slot_at t m).rank < (slot_at t l).rank → HasReducedAt t w side m → ⊥
 
 -- of the slots in whose rows w stands
 pub record IsFirstInColumn (t : Lists) (w : ℕ) (side : Side) (l : ℕ) : Type 0 where
   pub there : HasReducedAt t w side l
-  pub first : (m : ℕ) → m < l → entry t m w ≢ pos 0 → HasReducedAt t w side m → ⊥
+  pub first : (m : ℕ) → (slot_at t m).rank < (slot_at t l).rank → entry t m w ≢ pos 0
+      → HasReducedAt t w side m → ⊥
 
 -- no slot in whose row w stands is that of a level at which the mark has a reduced cost
 abbrev pub IsNoneInColumn : Lists → ℕ → Side → Type 0

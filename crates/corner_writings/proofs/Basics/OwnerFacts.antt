@@ -16,7 +16,7 @@ use Rattle.corner_table.specs.Tables.{Lists, line_slot, problem_of, slot_at}
 use Rattle.corner_table.specs.Kept.{AreSlots, IsOwned, IsSlot, IsStayOwner}
 
 pub past-slots : (t : Lists) (c : ℕ) → length t.slots ≤ c → (slot_at t c).owner ≡ LevelSlot
-past-slots t c le = ap (λ (s : Slot). s.owner) (get_or_past t.slots c (record { owner = LevelSlot; home = 0; weight = pos 1; scale = pos 1; rel = Eq }) le)
+past-slots t c le = ap (λ (s : Slot). s.owner) (get_or_past t.slots c (record { owner = LevelSlot; home = 0; rank = 0; weight = pos 1; scale = pos 1; rel = Eq }) le)
 
 abbrev pub line-like : Owner → Type 0
 line-like LevelSlot = ⊥

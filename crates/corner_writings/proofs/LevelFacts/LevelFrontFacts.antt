@@ -122,22 +122,22 @@ none_at_all t w side none f l h = elim (cases_eq (slot_at t w).home l) [
   | inr ne ↦ f l (in_column t l w side ne h) h
 ]
 
-pub column_before_home : (t : Lists) (w : ℕ) (side : Side) (l : ℕ) → l < (slot_at t w).home → IsFirstInColumn t w side l → IsFirstSlot t w side l
+pub column_before_home : (t : Lists) (w : ℕ) (side : Side) (l : ℕ) → (slot_at t l).rank < (slot_at t (slot_at t w).home).rank → IsFirstInColumn t w side l → IsFirstSlot t w side l
 column_before_home t w side l lt f = record {
   there = f.there;
-  first = λ m less h. f.first m less (in_column t m w side (λ e. omega (arith, e, lt, less)) h) h;
+  first = λ m less h. f.first m less (in_column t m w side (λ e. let same : (slot_at t (slot_at t w).home).rank ≡ (slot_at t m).rank = ap (λ (n : ℕ). (slot_at t n).rank) e in omega (arith, same, lt, less)) h) h;
 }
 
-pub home_before_column : (t : Lists) (w : ℕ) (side : Side) (l : ℕ) → (slot_at t w).home ≤ l → HasReducedAt t w side (slot_at t w).home → IsFirstInColumn t w side l → IsFirstSlot t w side (slot_at t w).home
+pub home_before_column : (t : Lists) (w : ℕ) (side : Side) (l : ℕ) → (slot_at t (slot_at t w).home).rank ≤ (slot_at t l).rank → HasReducedAt t w side (slot_at t w).home → IsFirstInColumn t w side l → IsFirstSlot t w side (slot_at t w).home
 home_before_column t w side l not-before here f = record {
   there = here;
-  first = λ m less h. f.first m (omega (arith, not-before, less)) (in_column t m w side (λ e. omega (arith, e, less)) h) h;
+  first = λ m less h. f.first m (omega (arith, not-before, less)) (in_column t m w side (λ e. let same : (slot_at t (slot_at t w).home).rank ≡ (slot_at t m).rank = ap (λ (n : ℕ). (slot_at t n).rank) e in omega (arith, same, less)) h) h;
 }
 
 pub home_alone : (t : Lists) (w : ℕ) (side : Side) → HasReducedAt t w side (slot_at t w).home → IsNoneInColumn t w side → IsFirstSlot t w side (slot_at t w).home
 home_alone t w side here f = record {
   there = here;
-  first = λ m less h. f m (in_column t m w side (λ e. omega (arith, e, less)) h) h;
+  first = λ m less h. f m (in_column t m w side (λ e. let same : (slot_at t (slot_at t w).home).rank ≡ (slot_at t m).rank = ap (λ (n : ℕ). (slot_at t n).rank) e in omega (arith, same, less)) h) h;
 }
 
 pub some_so : {X : Type 0} (P Q : X → Type 0) (o : Option X) → ((x : X) → P x → Q x) → IfSome o P → IfSome o Q

@@ -17,7 +17,7 @@ use Rattle.corner_writings.specs.declared.levels.Front.{Front}
 use Rattle.corner_table.specs.declared.table.Owner.{Owner}
 use Rattle.corner_table.specs.declared.table.Owner.TheVariants.{Line as LineSlot}
 use Rattle.corner_table.specs.declared.table.TheConstants.{LEVELS}
-use Rattle.corner_table.specs.Tables.{Lists, attr_slot, entry, level_slot, line_slot, marks_at, problem_of, slot_at}
+use Rattle.corner_table.specs.Tables.{Lists, entry, level_slot, line_slot, marks_at, problem_of, slot_at, stay_rank}
 use Rattle.corner_table.specs.Kept.{HasCost, IsKept, IsStayOwner}
 use Rattle.corner_table.specs.Views.{IsInUse, IsLevelOf, IsMarkOf, IsNamed, IsReducedAt}
 use Rattle.corner_writings.specs.Fronts.{IsFrontOf}
@@ -86,32 +86,46 @@ tail-level a j base [] (n, x, w, e, h) = absurd (omega (arith, w))
 tail-level a j base (s ∷ stays) (zero, x, w, e, h) = let k : base ≡ j = ap (λ (l : Line). l.level) e ∙ h.1 in omega (arith, k)
 tail-level a j base (s ∷ stays) (suc n, x, w, e, h) = let k = tail-level a j (base + 1) stays (n, x, omega (arith, w), e, h) in omega (arith, k)
 
-tail-less : (t : Lists) (low b k base : ℕ) (stays : List Stay) → Each (λ r. low < attr_slot t r.attr) stays → Any (λ l. (l.name ≡ StayOf b) × (l.level ≡ k)) (stay_lines base stays) → low < attr_slot t b
+tail-above : (t : Lists) (b k base : ℕ) (stays : List Stay) → Each (λ s. LEVELS ≤ stay_rank t s.attr) stays → Any (λ l. (l.name ≡ StayOf b) × (l.level ≡ k)) (stay_lines base stays) → LEVELS ≤ stay_rank t b
+tail-above t b k base [] all (n, x, w, e, h) = absurd (omega (arith, w))
+tail-above t b k base (s ∷ stays) all (zero, x, w, e, h) = subst (λ (n : ℕ). LEVELS ≤ stay_rank t n) (same-attr s.attr b (ap (λ (l : Line). l.name) e ∙ h.0)) all.0
+tail-above t b k base (s ∷ stays) all (suc n, x, w, e, h) = tail-above t b k (base + 1) stays all.1 (n, x, omega (arith, w), e, h)
+
+tail-less : (t : Lists) (low b k base : ℕ) (stays : List Stay) → Each (λ r. low < stay_rank t r.attr) stays → Any (λ l. (l.name ≡ StayOf b) × (l.level ≡ k)) (stay_lines base stays) → low < stay_rank t b
 tail-less t low b k base [] all (n, x, w, e, h) = absurd (omega (arith, w))
-tail-less t low b k base (s ∷ stays) all (zero, x, w, e, h) = subst (λ (n : ℕ). low < attr_slot t n) (same-attr s.attr b (ap (λ (l : Line). l.name) e ∙ h.0)) all.0
+tail-less t low b k base (s ∷ stays) all (zero, x, w, e, h) = subst (λ (n : ℕ). low < stay_rank t n) (same-attr s.attr b (ap (λ (l : Line). l.name) e ∙ h.0)) all.0
 tail-less t low b k base (s ∷ stays) all (suc n, x, w, e, h) = tail-less t low b k (base + 1) stays all.1 (n, x, omega (arith, w), e, h)
 
-stay-order : (t : Lists) (a b j k base : ℕ) (stays : List Stay) → AllPairs (λ s r. attr_slot t s.attr < attr_slot t r.attr) stays → Any (λ l. (l.name ≡ StayOf a) × (l.level ≡ j)) (stay_lines base stays) → Any (λ l. (l.name ≡ StayOf b) × (l.level ≡ k)) (stay_lines base stays) → j < k → attr_slot t a < attr_slot t b
+stay-order : (t : Lists) (a b j k base : ℕ) (stays : List Stay) → AllPairs (λ s r. stay_rank t s.attr < stay_rank t r.attr) stays → Any (λ l. (l.name ≡ StayOf a) × (l.level ≡ j)) (stay_lines base stays) → Any (λ l. (l.name ≡ StayOf b) × (l.level ≡ k)) (stay_lines base stays) → j < k → stay_rank t a < stay_rank t b
 stay-order t a b j k base [] rise (n, x, w, e, h) g lt = absurd (omega (arith, w))
 stay-order t a b j k base (s ∷ stays) rise (zero, x, w, e, h) (zero, y, v, f, g) lt =
     let p : base ≡ j = ap (λ (l : Line). l.level) e ∙ h.1 in let q : base ≡ k = ap (λ (l : Line). l.level) f ∙ g.1 in absurd (omega (arith, p, q, lt))
 stay-order t a b j k base (s ∷ stays) rise (zero, x, w, e, h) (suc n, y, v, f, g) lt =
-    subst (λ (n : ℕ). attr_slot t n < attr_slot t b) (same-attr s.attr a (ap (λ (l : Line). l.name) e ∙ h.0))
-    (tail-less t (attr_slot t s.attr) b k (base + 1) stays (recursion_from_All (λ r. attr_slot t s.attr < attr_slot t r.attr) stays (head_pairs (λ s r. attr_slot t s.attr < attr_slot t r.attr) s stays rise)) (n, y, omega (arith, v), f, g))
+    subst (λ (n : ℕ). stay_rank t n < stay_rank t b) (same-attr s.attr a (ap (λ (l : Line). l.name) e ∙ h.0))
+    (tail-less t (stay_rank t s.attr) b k (base + 1) stays (recursion_from_All (λ r. stay_rank t s.attr < stay_rank t r.attr) stays (head_pairs (λ s r. stay_rank t s.attr < stay_rank t r.attr) s stays rise)) (n, y, omega (arith, v), f, g))
 stay-order t a b j k base (s ∷ stays) rise (suc n, x, w, e, h) (zero, y, v, f, g) lt =
     let p = tail-level a j (base + 1) stays (n, x, omega (arith, w), e, h) in let q : base ≡ k = ap (λ (l : Line). l.level) f ∙ g.1 in absurd (omega (arith, p, q, lt))
 stay-order t a b j k base (s ∷ stays) rise (suc n, x, w, e, h) (suc m, y, v, f, g) lt =
-    stay-order t a b j k (base + 1) stays (tail_pairs (λ s r. attr_slot t s.attr < attr_slot t r.attr) s stays rise) (n, x, omega (arith, w), e, h) (m, y, omega (arith, v), f, g) lt
+    stay-order t a b j k (base + 1) stays (tail_pairs (λ s r. stay_rank t s.attr < stay_rank t r.attr) s stays rise) (n, x, omega (arith, w), e, h) (m, y, omega (arith, v), f, g) lt
 
-pub slots_in_order : (t : Lists) (a b : Level) (j k : ℕ) → IsKept t → IsLevelAt (problem_of t) a j → IsLevelAt (problem_of t) b k → j < k → level_slot t a < level_slot t b
-slots_in_order t (Priority r) (Priority s) j k kept x y lt = omega (arith, x, y, lt)
+-- the rank of a priority level is its number, and that of a stay's level is above all of them
+priority-rank : (t : Lists) (r j : ℕ) → IsKept t → IsLevelAt (problem_of t) (Priority r) j → (slot_at t (level_slot t (Priority r))).rank ≡ j
+priority-rank t r j kept x = let e = kept.slots.level_ranks (1000 - r) (omega (arith, x)) in omega (arith, e, x)
+
+stay-rank-above : (t : Lists) (b k : ℕ) → IsKept t → IsLevelAt (problem_of t) (StayLevel b) k → LEVELS ≤ stay_rank t b
+stay-rank-above t b k kept y = tail-above t b k 1001 t.stays (recursion_from_All (λ s. LEVELS ≤ stay_rank t s.attr) t.stays kept.slots.stay_ranks) (past-rows b k t.rows (stay_lines 1001 t.stays) y)
+
+-- of two levels the stronger one has the lower rank
+pub slots_in_order : (t : Lists) (a b : Level) (j k : ℕ) → IsKept t → IsLevelAt (problem_of t) a j → IsLevelAt (problem_of t) b k → j < k → (slot_at t (level_slot t a)).rank < (slot_at t (level_slot t b)).rank
+slots_in_order t (Priority r) (Priority s) j k kept x y lt = let p = priority-rank t r j kept x in let q = priority-rank t s k kept y in omega (arith, p, q, lt)
 slots_in_order t (Priority r) (StayLevel b) j k kept x y lt =
-    let above : LEVELS ≤ level_slot t (StayLevel b) = named_line t (StayOf b) kept (any_impl (λ l. (l.name ≡ StayOf b) × (l.level ≡ k)) (λ l. l.name ≡ StayOf b) (lines (problem_of t)) (λ l h. h.0) y) (λ l known e. subst (λ (n : RowName). LEVELS ≤ line_slot t n) e known.slot.slot.0) in
-    omega (arith, x, above)
+    let p = priority-rank t r j kept x in
+    let above : LEVELS ≤ (slot_at t (level_slot t (StayLevel b))).rank = stay-rank-above t b k kept y in
+    omega (arith, p, x, above)
 slots_in_order t (StayLevel a) (Priority s) j k kept x y lt =
     let above = tail-level a j 1001 t.stays (past-rows a j t.rows (stay_lines 1001 t.stays) x) in absurd (omega (arith, y, lt, above))
 slots_in_order t (StayLevel a) (StayLevel b) j k kept x y lt =
-    let h = stay-order t a b j k 1001 t.stays kept.slots.stays_rise (past-rows a j t.rows (stay_lines 1001 t.stays) x) (past-rows b k t.rows (stay_lines 1001 t.stays) y) lt in omega (arith, h)
+    stay-order t a b j k 1001 t.stays kept.slots.stays_rise (past-rows a j t.rows (stay_lines 1001 t.stays) x) (past-rows b k t.rows (stay_lines 1001 t.stays) y) lt
 
 pub is_front : (t : Lists) (m : Mark) (l : ℕ) (f : Front) → IsKept t → IsMarkOf (problem_of t) m → IsFirstSlot t (line_slot t m.row) m.side l → IsLevelThere t l f.level → f.reduced ≡ reduced_at t l (line_slot t m.row) m.side → IsFrontOf (problem_of t) (marks_at t) m f
 is_front t m l f kept mark first there e = record {
@@ -122,6 +136,6 @@ is_front t m l f kept mark first there e = record {
       let is = used_level (problem_of t) level use-of in
       subst (IsReducedAt (problem_of t) (marks_at t) level m)
       (is_zero (reduced_at t (level_slot t level) (line_slot t m.row) m.side)
-      (λ ne. first.first (level_slot t level) (subst (λ (n : ℕ). level_slot t level < n) there.1 (slots_in_order t level f.level is.0 there.0.0 kept is.1 there.0.1 (stronger is.0 there.0.0 is.1 there.0.1))) (cost_slot t level kept is, ne)))
+      (λ ne. first.first (level_slot t level) (subst (λ (n : ℕ). (slot_at t (level_slot t level)).rank < (slot_at t n).rank) there.1 (slots_in_order t level f.level is.0 there.0.0 kept is.1 there.0.1 (stronger is.0 there.0.0 is.1 there.0.1))) (cost_slot t level kept is, ne)))
       (has_reduced t level m kept is mark);
 }

@@ -10,7 +10,7 @@ use Rattle.problem_core.specs.declared.parts.Stay.{Stay}
 use Rattle.problem_core.specs.Layout.{Line, Row, line_of_row, line_of_stay, lines, stay_lines}
 use Rattle.problem_core.specs.Levels.{IsLevelAt}
 use Rattle.corner_table.specs.declared.table.TheConstants.{LEVELS}
-use Rattle.corner_table.specs.Tables.{Lists, level_slot, priority_at, problem_of}
+use Rattle.corner_table.specs.Tables.{Lists, level_slot, priority_at, problem_of, slot_at}
 use Rattle.corner_table.specs.Kept.{IsKept}
 use Rattle.corner_table.specs.Views.{IsInUse, IsStronger}
 use Rattle.corner_writings.proofs.LevelFacts.LevelReadFacts.{same_level, same_slot}
@@ -157,17 +157,17 @@ all_used t n levels le h a use-of =
 
 -- ---- which of two is stronger
 
-pub stronger_slot : (t : Lists) (a b : Level) (j k : ℕ) → IsKept t → IsLevelAt (problem_of t) a j → IsLevelAt (problem_of t) b k → level_slot t a < level_slot t b → j < k
+pub stronger_slot : (t : Lists) (a b : Level) (j k : ℕ) → IsKept t → IsLevelAt (problem_of t) a j → IsLevelAt (problem_of t) b k → (slot_at t (level_slot t a)).rank < (slot_at t (level_slot t b)).rank → j < k
 stronger_slot t a b j k kept x y less =
     elim (cases_lt j k) [
       | inl before ↦ before
       | inr after ↦ elim (cases_eq j k) [
-        | inl e ↦ let same : level_slot t a ≡ level_slot t b = same_slot t (level_slot t a) (level_slot t b) j k kept (a, x, refl) (b, y, refl) e in absurd (omega (arith, same, less))
-        | inr ne ↦ let back : level_slot t b < level_slot t a = slots_in_order t b a k j kept y x (omega (arith, after, ne)) in absurd (omega (arith, back, less))
+        | inl e ↦ let same : (slot_at t (level_slot t a)).rank ≡ (slot_at t (level_slot t b)).rank = ap (λ (n : ℕ). (slot_at t n).rank) (same_slot t (level_slot t a) (level_slot t b) j k kept (a, x, refl) (b, y, refl) e) in absurd (omega (arith, same, less))
+        | inr ne ↦ let back : (slot_at t (level_slot t b)).rank < (slot_at t (level_slot t a)).rank = slots_in_order t b a k j kept y x (omega (arith, after, ne)) in absurd (omega (arith, back, less))
       ]
     ]
 
-pub weaker_slot : (t : Lists) (a b : Level) (j k : ℕ) → IsKept t → IsLevelAt (problem_of t) a j → IsLevelAt (problem_of t) b k → level_slot t b ≤ level_slot t a → k ≤ j
+pub weaker_slot : (t : Lists) (a b : Level) (j k : ℕ) → IsKept t → IsLevelAt (problem_of t) a j → IsLevelAt (problem_of t) b k → (slot_at t (level_slot t b)).rank ≤ (slot_at t (level_slot t a)).rank → k ≤ j
 weaker_slot t a b j k kept x y le =
     elim (cases_lt j k) [
       | inl before ↦ let less = slots_in_order t a b j k kept x y before in absurd (omega (arith, le, less))

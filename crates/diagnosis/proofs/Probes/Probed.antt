@@ -5,11 +5,11 @@ use lib.IntN.{*ℤ_comm}
 use borrow.Author.Differences.{ints}
 use Rattle.frac_core.specs.Fraction.{Fraction, IsKept, IsLowest}
 use Rattle.problem_core.specs.Layout.{Assignment, Gives, IsBest, above, below, error, gap, line_of_row}
-use Rattle.problem_core.specs.Kept.{AreRising, IsWhole}
+use Rattle.problem_core.specs.Kept.{IsWhole}
 use Rattle.problem_core.specs.Gaps.{HasValue, value_of}
 use Rattle.problem_core.proofs.GapFacts.Lookups.{given-value}
 use Rattle.problem_core.proofs.Wholes.{whole-IsProblem}
-use Rattle.layout_solver.specs.Layouts.{AreBest, IsBestValue, Layout, stays_at, zeros}
+use Rattle.layout_solver.specs.Layouts.{AreApart, AreBest, IsBestValue, Layout, stays_at, zeros}
 use Rattle.diagnosis.specs.Ambiguity.{GoesAbove, GoesBelow, IsAmbiguous, IsLooselyBest, IsMove, Reaches}
 use Rattle.diagnosis.specs.declared.probing.Answer.TheVariants.{Moves}
 use Rattle.diagnosis.specs.Probes.{CanProbe, IsAnswer, IsBeside, IsTried, probe_row, with_probe}
@@ -17,7 +17,7 @@ use Rattle.diagnosis.proofs.Loosely.{best_loosely}
 use Rattle.diagnosis.proofs.Nearest.{IsNearest, move_ambiguous, neither_fixed, nearest_moves_down, nearest_moves_up, nearest_stays_down, nearest_stays_up}
 use Rattle.diagnosis.proofs.Positions.{place}
 use Rattle.diagnosis.proofs.Probes.ProbeCosts.{probed_loosely, probed_nearest}
-use Rattle.problem_core.proofs.Sides.{value-is as value_is}
+use Rattle.layout_solver.proofs.ApartValues.{value_is}
 use Rattle.frac_core.proofs.Made.{same_fraction}
 
 -- ---- the error at the probe row
@@ -110,12 +110,12 @@ pub record Read (l : Layout) (attr : ℕ) (v : Fraction) : Type 0 where
   pub whole : IsWhole l.problem
   pub best : AreBest l.problem l.values
   pub kept : All (λ w. IsKept w.1) l.values
-  pub rising : AreRising l.values
+  pub apart : AreApart l.values
   pub can : CanProbe l attr
   pub value : Any (λ w. (w.0 ≡ attr) × (w.1 ≡ v)) l.values
 
 read-is : (l : Layout) (attr : ℕ) (v : Fraction) → Read l attr v → v ≡ value_of l.values attr
-read-is l attr v r = value_is l.values attr v r.rising r.value
+read-is l attr v r = value_is l.values attr v r.apart r.value
 
 probing : (l : Layout) (attr : ℕ) (up : Bool) (v f : Fraction) → Read l attr v → IsKept f → IsTried l attr up f → (t : Fraction) × IsBeside up (value_of l.values attr) t × Probing l attr t f
 probing l attr up v f r kept (t, beside, fits, more, value) = (

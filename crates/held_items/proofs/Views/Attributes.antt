@@ -1,8 +1,9 @@
 -- The attributes of views.
-use Rattle.std.proofs.Common.{◌≡◌, ℕ, zero, suc, ◌+◌, ◌*◌, ◌^◌, ◌<◌, ◌≤◌, List, [], ◌∷◌, ◌++◌, length, map, append_assoc, Some, refl, sym, ap, subst, ◌∙◌, arith, All, AllPairs}
+use Rattle.std.proofs.Common.{◌≡◌, ℕ, zero, suc, ◌+◌, ◌*◌, ◌^◌, ◌<◌, ◌≤◌, List, [], ◌∷◌, ◌++◌, length, map, append_assoc, Some, refl, sym, ap, subst, ◌∙◌, arith, All, AllPairs, IsPermutation}
 use Rattle.std.specs.List.{Contains, slice_get, AllByRecursion as Each}
 use Rattle.std.proofs.lemmas.Option.{none-some, same_Some}
 use Rattle.std.proofs.lemmas.List.Elements.{recursion_from_All, All-from_recursion, All-weaker, Contains-append_left}
+use Rattle.std.proofs.lemmas.List.Sorted.{All-permutation}
 use Rattle.problem_core.specs.declared.parts.Stay.{Stay}
 use Rattle.problem_core.specs.Kept.{IsNumber}
 use Rattle.view_tree.specs.JsonTrees.{Branch, branch, Branches, no_branches, more, size, size_in, views_of, views_in, with_branch}
@@ -79,10 +80,10 @@ pub attributes-below : (views : List LiveView) (id : ℕ) → All (λ v. v.id < 
 attributes-below views id h = All-from_recursion (λ a. a < 4 * id + 1) (all_attributes views) (each-below views id (recursion_from_All (λ v. v.id < id) views h))
 
 -- the stays of the views have no attribute of a later view
-pub stays-below : (stays : List Stay) (views : List LiveView) (id : ℕ) → map (λ s. s.attr) stays ≡ all_attributes views → All (λ v. v.id < id) views → All (λ s. s.attr ≤ 4 * id) stays
+pub stays-below : (stays : List Stay) (views : List LiveView) (id : ℕ) → IsPermutation (all_attributes views) (map (λ s. s.attr) stays) → All (λ v. v.id < id) views → All (λ s. s.attr ≤ 4 * id) stays
 stays-below stays views id are h =
     all-unmapped (λ (s : Stay). s.attr) (λ a. a ≤ 4 * id) stays
-    (All-weaker (λ a. a < 4 * id + 1) (λ a. a ≤ 4 * id) (λ a less. omega (arith, less)) (map (λ s. s.attr) stays) (subst (All (λ a. a < 4 * id + 1)) (sym are) (attributes-below views id h)))
+    (All-weaker (λ a. a < 4 * id + 1) (λ a. a ≤ 4 * id) (λ a less. omega (arith, less)) (map (λ s. s.attr) stays) (All-permutation (λ a. a < 4 * id + 1) (all_attributes views) (map (λ s. s.attr) stays) are (attributes-below views id h)))
 
 pub attribute-count : (views : List LiveView) → length (all_attributes views) ≡ 4 * length views
 attribute-count [] = refl

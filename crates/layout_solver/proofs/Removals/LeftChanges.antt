@@ -1,32 +1,28 @@
 -- An engine's corner from its mark to a removal or back.
-use Rattle.std.proofs.Common.{◌≡◌, ◌∙◌, ℕ, zero, suc, ◌<◌, cond, nat_eq, true, false, List, [], ◌∷◌, map, get_or, refl, sym, ap, subst, arith, All, AllPairs, Any, Contains}
+use Rattle.std.proofs.Common.{◌≡◌, ◌∙◌, ℕ, zero, suc, List, [], ◌∷◌, map, get_or, refl, sym, ap, subst, arith, All, Any, Contains}
 use Rattle.std.specs.List.{AllByRecursion as Each}
 use Rattle.std.proofs.lemmas.List.Elements.{All-from_recursion}
-use Rattle.std.proofs.lemmas.List.Kept.{AllPairs-filter}
 use Rattle.frac_core.specs.Fraction.{Fraction}
 use Rattle.problem_core.specs.declared.parts.Mark.{Mark}
 use Rattle.problem_core.specs.declared.parts.Stay.{Stay}
 use Rattle.problem_core.specs.Layout.{Assignment, HasStay, Problem, Row, Satisfies, error, line_of_row}
-use Rattle.problem_core.specs.Kept.{AreRising, IsWhole}
+use Rattle.problem_core.specs.Kept.{IsWhole}
 use Rattle.problem_core.specs.Corners.{IsCorner, NoNegativeValue, Point, StandsAt, attr_column}
 use Rattle.corner.specs.Views.{CornerView, HasValueAt, IsKeptCorner, Scene}
 use Rattle.corner.specs.Changes.{HasStood, scene_of}
 use Rattle.corner_ends.specs.Runs.{IsBestEnd}
-use Rattle.corner_lines.specs.Removals.{without_attr}
 use Rattle.marker_remove.specs.Freed.{DoStand}
 use Rattle.layout_solver.specs.declared.removing.RemoveStop.{RemoveStop}
 use Rattle.layout_solver.specs.Layouts.{Layout}
 use Rattle.layout_solver.specs.Engines.{AreItsValues, HaveValues, IsSolved}
-use Rattle.layout_solver.specs.Removals.{CanLeave, HasRemoved, IsRemoveStop, Leaving, stood, with_removed, without, without_attrs, without_rows}
-use Rattle.layout_solver.specs.Starts.{IsMoved, attrs_of}
+use Rattle.layout_solver.specs.Removals.{CanLeave, HasRemoved, IsRemoveStop, Leaving, stood, with_removed, without}
+use Rattle.layout_solver.specs.Starts.{IsMoved}
 use Rattle.layout_solver.proofs.Shifts.Alterations.{stood_problem}
 use Rattle.layout_solver.proofs.Changes.{IsMarked, changed_kept, still_moved, there_marks}
-use Rattle.layout_solver.proofs.Removals.LeftRows.{stays_same}
 use Rattle.layout_solver.proofs.Starts.Moved.{IsAtTarget, moved_stands}
 use Rattle.layout_solver.proofs.Starts.MovedProblems.{its_values, moved_up, one_problem}
 use Rattle.layout_solver.proofs.Solved.{solved_end, these_values}
 use Rattle.layout_solver.proofs.Values.{numbers_here}
-use Rattle.frac_core.proofs.Lists.{pairs-unmapped as mapped-pairs, pairs-map as pairs-mapped}
 
 -- ---- the stays have moved
 
@@ -87,20 +83,6 @@ module _ (from mid : CornerView) (corner : IsCorner from.problem from.marks) (ha
       subst (λ (ms : List Mark). IsRemoveStop p ms l budget stop) marks
       (subst (λ (q : Problem). IsRemoveStop q mid.marks l budget stop) (one-stood p m) h)
 
--- ---- the values that are left rise
-
-attrs-pairs : (attrs : List ℕ) (p : Problem) → AllPairs (λ (s t : Stay). s.attr < t.attr) p.stays → AllPairs (λ (s t : Stay). s.attr < t.attr) (without_attrs attrs p).stays
-attrs-pairs [] p h = h
-attrs-pairs (a ∷ attrs) p h = attrs-pairs attrs (without_attr a p) (AllPairs-filter (λ (s t : Stay). s.attr < t.attr) (λ s. cond (nat_eq s.attr a) false true) p.stays h)
-
-left-rising : (l : Leaving) (old : Layout) (new : List (ℕ × Fraction)) → AreRising old.values → map (λ v. v.0) new ≡ attrs_of (with_removed old l) → AreRising new
-left-rising l old new rising is =
-    let stays : AllPairs (λ (s t : Stay). s.attr < t.attr) (with_removed old l).stays =
-    attrs-pairs l.attrs (without_rows l.rows (stood old))
-    (subst (AllPairs (λ (s t : Stay). s.attr < t.attr)) (sym (stays_same l.rows (stood old))) (pairs-mapped (λ (v : ℕ × Fraction). record { attr = v.0; target = v.1 }) (λ (s t : Stay). s.attr < t.attr) old.values rising)) in
-    mapped-pairs (λ (w : ℕ × Fraction). w.0) (λ (a b : ℕ). a < b) new
-    (subst (AllPairs (λ (a b : ℕ). a < b)) (sym is) (pairs-mapped (λ (s : Stay). s.attr) (λ (a b : ℕ). a < b) (with_removed old l).stays stays))
-
 -- ---- after the mark
 
 module _ (c mid : CornerView) (v : List (ℕ × Fraction)) (past : HaveValues c.before) (l : Layout) (m : IsMarked c mid v past l) (what : Leaving) where
@@ -127,8 +109,7 @@ module _ (c mid : CornerView) (v : List (ℕ × Fraction)) (past : HaveValues c.
 
   pub removed_solved : (end : CornerView) → end.before ≡ mid.before → (w : List (ℕ × Fraction)) (rest : HaveValues end.before) → ((p : Problem) → IsMoved mid [] mid.problem.rows p → end.problem ≡ without what p) → IsBestEnd end.problem end.marks → end.candidates ≡ []
       → IsKeptCorner end.problem end.marks → ∥ AreItsValues (scene_of end) w ∥₁ → IsSolved end w rest
-  removed_solved end before w rest moved best listed kept h =
+  removed_solved end before w rest _ best listed kept h =
       let values = these_values end kept.corner w h in
       solved_end end w rest kept best values
-      (left-rising what l w (subst (λ (k : Layout). AreRising k.values) m.view m.solved.kept.rising) (values.attributes ∙ ap attrs_of (removed_is end.problem moved)))
       (changed_kept c mid v past l m end before rest) listed

@@ -1,13 +1,13 @@
 -- That attributes may come.
-use Rattle.std.proofs.Common.{◌≡◌, ◌≢◌, ◌∙◌, ℕ, ◌<◌, ◌≤◌, ◌++◌, List, [], ◌∷◌, length, map, refl, sym, ap, subst, arith, AllPairs, append_assoc, length-append}
+use Rattle.std.proofs.Common.{◌≡◌, ◌≢◌, ◌∙◌, ℕ, ◌≤◌, ◌++◌, List, [], ◌∷◌, length, map, refl, sym, ap, subst, arith, AllPairs, append_assoc, length-append}
 use Rattle.std.specs.List.{AllByRecursion as Each}
 use Rattle.std.proofs.lemmas.List.Elements.{recursion_from_All}
 use Rattle.frac_core.specs.Fraction.{Fraction}
 use Rattle.problem_core.specs.declared.parts.Stay.{Stay}
 use Rattle.problem_core.specs.Layout.{Problem, Row}
-use Rattle.problem_core.specs.Kept.{AreRising, IsNumber, IsStay, IsWhole}
+use Rattle.problem_core.specs.Kept.{IsNumber, IsStay, IsWhole}
 use Rattle.problem_core.proofs.Forms.{each-impl}
-use Rattle.layout_solver.specs.Layouts.{stays_at, zeros}
+use Rattle.layout_solver.specs.Layouts.{AreApart, stays_at, zeros}
 use Rattle.layout_solver.specs.Starts.{CanTake, attrs_of}
 use Rattle.layout_solver.proofs.Starts.Moved.{each_mapped}
 use Rattle.corner_laws.proofs.MarkWritings.TermLifts.{pairs-across}
@@ -42,18 +42,10 @@ pub added_room : (held : List ℕ) (values : List (ℕ × Fraction)) (attrs : Li
 added_room held values attrs rows e whole =
     whole-room (record { rows = rows; stays = stays_at (values ++ zeros attrs) }) held attrs whole (numbers-of values attrs ∙ ap (λ (ns : List ℕ). ns ++ attrs) e)
 
--- ---- values that rise
+-- ---- values of different attributes
 
-pub same_rising : (u v : List (ℕ × Fraction)) → map (λ w. w.0) u ≡ map (λ w. w.0) v → AreRising v → AreRising u
-same_rising u v e h =
-    mapped-pairs (λ (w : ℕ × Fraction). w.0) (λ (a b : ℕ). a < b) u
-    (subst (AllPairs (λ (a b : ℕ). a < b)) (sym e) (pairs-mapped (λ (w : ℕ × Fraction). w.0) (λ (a b : ℕ). a < b) v h))
-
--- the values of a problem whose stays are at these values rise with them
-pub stays_rising : (values new : List (ℕ × Fraction)) (p : Problem) → p.stays ≡ stays_at values → map (λ v. v.0) new ≡ attrs_of p → AreRising values → AreRising new
-stays_rising values new p e is h =
-    same_rising new values (is ∙ ap (map (λ (s : Stay). s.attr)) e ∙ firsts values) h
-  where
-    firsts : (vs : List (ℕ × Fraction)) → map (λ (s : Stay). s.attr) (stays_at vs) ≡ map (λ v. v.0) vs
-    firsts [] = refl
-    firsts (v ∷ vs) = ap (λ (ns : List ℕ). v.0 ∷ ns) (firsts vs)
+-- the stays of a whole problem are of different attributes, and so are the values in their order
+pub values_apart : (p : Problem) (values : List (ℕ × Fraction)) → IsWhole p → map (λ v. v.0) values ≡ attrs_of p → AreApart values
+values_apart p values whole is =
+    mapped-pairs (λ (v : ℕ × Fraction). v.0) (λ (a b : ℕ). a ≢ b) values
+    (subst (AllPairs (λ (a b : ℕ). a ≢ b)) (sym is) (pairs-mapped (λ (s : Stay). s.attr) (λ (a b : ℕ). a ≢ b) p.stays whole.apart))

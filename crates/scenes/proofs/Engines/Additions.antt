@@ -1,23 +1,24 @@
 -- What a scene hands its engine makes a problem, and the scene counts on.
-use Rattle.std.proofs.Common.{◌≡◌, ℕ, ◌+◌, ◌^◌, ◌<◌, ◌≤◌, List, [], ◌∷◌, ◌++◌, length, map, length-append, refl, sym, ap, subst, ◌∙◌, arith, All, lit<}
+use Rattle.std.proofs.Common.{◌≡◌, ◌≢◌, ℕ, ◌+◌, ◌^◌, ◌<◌, ◌≤◌, List, [], ◌∷◌, ◌++◌, length, map, length-append, refl, sym, ap, subst, ◌∙◌, arith, All, lit<, IsPermutation}
 use Rattle.std.proofs.lemmas.List.{append-nil, length-map}
 use Rattle.std.proofs.lemmas.List.Elements.{All-from_recursion, All-append, All-weaker, All-map}
+use Rattle.std.proofs.lemmas.List.Sorted.{IsPermutation-append_left, IsPermutation-refl}
 use Rattle.frac_core.specs.Fraction.{Fraction}
 use Rattle.problem_core.specs.declared.parts.Rel.TheVariants.{Eq, Ge}
 use Rattle.problem_core.specs.declared.parts.Stay.{Stay}
 use Rattle.problem_core.specs.declared.parts.Term.{Term}
 use Rattle.problem_core.specs.Layout.{Row, Problem}
-use Rattle.problem_core.specs.Kept.{IsNumber, IsRow, IsWhole, AreRising}
+use Rattle.problem_core.specs.Kept.{IsNumber, IsRow, IsWhole}
 use Rattle.problem_core.specs.Window.{required_row, structural_rows, zero_fraction}
 use Rattle.view_tree.specs.Views.{LiveView, ViewTree, first_tree}
 use Rattle.layout_solver.specs.declared.engine.Change.{Change}
-use Rattle.layout_solver.specs.Layouts.{Layout, zeros, with_added}
+use Rattle.layout_solver.specs.Layouts.{Layout, stays_at, zeros, with_added}
 use Rattle.layout_solver.specs.Shifts.{shifted, with_shifts}
 use Rattle.problem_core.specs.Unfit.{without_constant}
 use Rattle.held_items.specs.Attributes.{view_attributes, all_attributes, HasOnly, IsCounted}
 use Rattle.held_items.proofs.Lists.{four-rising, all-unmapped}
 use Rattle.held_items.proofs.Views.Attributes.{view-new, none-new, contains-left, contains-top, contains-width, contains-height}
-use Rattle.scenes.proofs.Engines.Wholes.{IsSettled, added-rising, added-whole, settled-numbers, attributes-joined}
+use Rattle.scenes.proofs.Engines.Wholes.{IsSettled, added-whole, may_shuffled, settled-numbers, attributes-joined}
 use Rattle.held_items.proofs.HeldRows.NextRows.{shape}
 use Rattle.held_items.specs.Attributes.{MayBeAdded}
 use Rattle.held_items.proofs.Constants.AlikeRows.{alike-shapes}
@@ -37,14 +38,9 @@ rows-whole views next l more is counted may room =
     added-whole l.problem l.values [] more next (2 ^ 31 + 1) is
     (all-unmapped (λ (v : ℕ × Fraction). v.0) (λ n. n < 2 ^ 31 + 1) l.values (All-weaker IsNumber (λ n. n < 2 ^ 31 + 1) (λ n h. omega (arith, h.1)) (map (λ v. v.0) l.values) (settled-numbers l.problem l.values is)))
     (none-new (2 ^ 31 + 1)) counted.below
-    (subst (λ (ns : List ℕ). MayBeAdded ns next more) (sym (append-nil (map (λ s. s.attr) l.problem.stays) ∙ counted.stays)) may)
+    (subst (λ (ns : List ℕ). MayBeAdded ns next more) (sym (append-nil (map (λ s. s.attr) l.problem.stays)))
+    (may_shuffled (all_attributes views) (map (λ s. s.attr) l.problem.stays) next more counted.stays may))
     (omega (arith, room)) (omega (arith, is.whole.stay_count))
-
--- ---- attributes that rise
-
--- there is none more
-pub still-rising : (l : Layout) → AreRising l.values → AreRising (l.values ++ zeros [])
-still-rising l rising = subst AreRising (sym (append-nil l.values)) rising
 
 -- ---- counts
 
@@ -52,7 +48,9 @@ pub counted-added : (views new_views : List LiveView) (next now : ℕ) (l : Layo
     → all_attributes new_views ≡ all_attributes views ++ attrs → All (λ r. r.id < now) more → All HasRank more → next ≤ now → length l.problem.rows + length more ≤ 2000 → p ≡ with_added l attrs more → IsCounted new_views now p
 counted-added views new_views next now l attrs more p same counted grown below ranks up room is =
     subst (IsCounted new_views now) (sym is) (record {
-      stays = attrs-at (l.values ++ zeros attrs) ∙ attributes-joined l.values attrs ∙ ap (λ (ns : List ℕ). ns ++ attrs) (same ∙ counted.stays) ∙ sym grown;
+      stays = subst (λ (ns : List ℕ). IsPermutation ns (map (λ s. s.attr) (stays_at (l.values ++ zeros attrs)))) (sym grown)
+          (subst (IsPermutation (all_attributes views ++ attrs)) (sym (attrs-at (l.values ++ zeros attrs) ∙ attributes-joined l.values attrs ∙ ap (λ (ns : List ℕ). ns ++ attrs) same))
+          (IsPermutation-append_left attrs (all_attributes views) (map (λ s. s.attr) l.problem.stays) counted.stays));
       below = All-append (λ (r : Row). r.id < now) l.problem.rows more (All-weaker (λ (r : Row). r.id < next) (λ (r : Row). r.id < now) (λ r h. omega (arith, h, up)) l.problem.rows counted.below) below;
       ranks = All-append HasRank l.problem.rows more counted.ranks ranks;
       few = omega (arith, room, length-append l.problem.rows more);
@@ -64,7 +62,7 @@ pub counted-shifted : (views : List LiveView) (next : ℕ) (l : Layout) (to : Li
 counted-shifted views next l to p same counted is =
     let shapes : map shape (shifted to l.problem.rows) ≡ map shape l.problem.rows = alike-shapes (shifted to l.problem.rows) l.problem.rows (shifted-alike to l.problem.rows) in
     subst (IsCounted views next) (sym is) (record {
-      stays = attrs-at l.values ∙ same ∙ counted.stays;
+      stays = subst (IsPermutation (all_attributes views)) (sym (attrs-at l.values ∙ same)) counted.stays;
       below = all-unmapped shape (λ s. s.0 < next) (shifted to l.problem.rows) (subst (All (λ (s : ℕ × List Term). s.0 < next)) (sym shapes) (mapped l.problem.rows counted.below));
       ranks = all-unmapped without_constant HasRank (shifted to l.problem.rows) (subst (All HasRank) (sym (shifted-alike to l.problem.rows)) (All-map HasRank without_constant l.problem.rows counted.ranks));
       few = (let long : length (shifted to l.problem.rows) ≡ length l.problem.rows = sym (length-map (shifted to l.problem.rows) shape) ∙ ap length shapes ∙ length-map l.problem.rows shape in omega (arith, counted.few, long));
@@ -100,7 +98,7 @@ empty-settled = record {
   };
   attributes = refl;
   kept = λ k d within. absurd (omega (arith, within));
-  rising = pairs-nil (λ (u v : ℕ × Fraction). u.0 < v.0);
+  apart = pairs-nil (λ (u v : ℕ × Fraction). u.0 ≢ v.0);
 }
 
 pub first-whole : (l : Layout) (more : List Row) → l ≡ empty → more ≡ structural_rows → All IsRow more → IsWhole (with_added l (1 ∷ 2 ∷ 3 ∷ 4 ∷ []) more)
@@ -114,13 +112,9 @@ pub first-counted : (t : ViewTree) (p : Problem) → t ≡ first_tree t.most →
 first-counted t p tree is =
     subst (λ (u : ViewTree). IsCounted u.views 5 p) (sym tree)
     (subst (IsCounted (first_tree t.most).views 5) (sym is) (record {
-      stays = refl;
+      -- the window's four in their order
+      stays = IsPermutation-refl (view_attributes 0);
       below = All-from_recursion (λ (r : Row). r.id < 5) structural_rows (lit< tt, (lit< tt, (lit< tt, (lit< tt, tt))));
       ranks = All-from_recursion HasRank structural_rows (lit< tt, (lit< tt, (lit< tt, (lit< tt, tt))));
       few = omega arith;
     }))
-
-pub first-rising : (l : Layout) → l ≡ empty → AreRising (l.values ++ zeros (1 ∷ 2 ∷ 3 ∷ 4 ∷ []))
-first-rising l is =
-    subst (λ (k : Layout). AreRising (k.values ++ zeros (1 ∷ 2 ∷ 3 ∷ 4 ∷ []))) (sym is)
-    (added-rising empty.values (view_attributes 0) 1 empty-settled.rising (λ k d within. absurd (omega (arith, within))) (view-new 0 (lit< tt)))

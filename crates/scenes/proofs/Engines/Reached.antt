@@ -70,4 +70,4 @@ leads-to l p s budget h done run =
 -- ---- for what a session hands on
 
 pub settled : (l : Layout) → IsKeptLayout l → IsSettled l.problem l.values
-settled l h = record { whole = h.corner.whole; attributes = h.best.attributes; kept = h.fit; rising = h.rising }
+settled l h = record { whole = h.corner.whole; attributes = h.best.attributes; kept = h.fit; apart = h.apart }

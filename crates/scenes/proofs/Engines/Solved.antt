@@ -82,7 +82,7 @@ module _ (tree : ViewTree) (ms : MetricList) (held : List Item) (setting : Setti
   is = settled l sound
 
   pub still : moved l.problem.stays l.values ≡ stays_at (l.values ++ zeros [])
-  still = moved-still l.problem.stays l.values is.attributes is.rising
+  still = moved-still l.problem.stays l.values is.attributes is.apart
 
   -- more rows join at the kept corner
   pub kept-start : (rows more : List Row) → rows ≡ l.problem.rows ++ more → IsStart (scene_at tree ms held setting l) rows (from_corner l more)
@@ -102,7 +102,7 @@ module _ (tree : ViewTree) (ms : MetricList) (held : List Item) (setting : Setti
   Solved draft budget new = (path : Path) × IsSolved (scene_at tree ms held setting l) draft budget path new
 
   pub moves : moved l.problem.stays l.values ≡ stays_at l.values
-  moves = moved-is l.problem.stays l.values is.attributes is.rising
+  moves = moved-is l.problem.stays l.values is.attributes is.apart
 
   -- ---- views
 
@@ -110,7 +110,7 @@ module _ (tree : ViewTree) (ms : MetricList) (held : List Item) (setting : Setti
   views-are id n more more_is = rows-join ms held (view_items setting.next_row id n) l.problem.rows more kept.are_rows (subst (AreRows ms (view_items setting.next_row id n)) (sym more_is) (rows-come ms setting.next_row id n))
 
   views-move : (id n : ℕ) → moved l.problem.stays l.values ++ stays_at (zeros (attributes_from id n)) ≡ stays_at (l.values ++ zeros (attributes_from id n))
-  views-move id n = moved-added l.problem.stays l.values (attributes_from id n) is.attributes is.rising
+  views-move id n = moved-added l.problem.stays l.values (attributes_from id n) is.attributes is.apart
 
   pub views-stops : (new_tree : ViewTree) (id n : ℕ) (more : List Row) (budget : ℕ) (s : RunStop) → more ≡ rows_of_views setting.next_row id n → IsStopFrom (from_corner l more) (with_added l (attributes_from id n) more) budget s
       → RunStopsAt (scene_at tree ms held setting l) (views_draft (scene_at tree ms held setting l) new_tree id n) budget s

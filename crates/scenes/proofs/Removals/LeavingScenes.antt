@@ -1,5 +1,5 @@
 -- What a removal comes to.
-use Rattle.std.proofs.Common.{◌≡◌, ◌≢◌, inl, inr, Some, ℕ, ◌^◌, ◌<◌, Bool, true, false, cond, not, nat_eq, List, [], ◌∷◌, length, map, filter, All, refl, sym, ap, ap₂, ◌∙◌, subst, arith}
+use Rattle.std.proofs.Common.{◌≡◌, ◌≢◌, inl, inr, Some, ℕ, ◌^◌, ◌<◌, Bool, true, false, cond, not, nat_eq, List, [], ◌∷◌, length, map, filter, All, IsPermutation, refl, sym, ap, ap₂, ◌∙◌, subst, arith}
 use Rattle.frac_core.specs.Fraction.{Fraction}
 use Rattle.std.proofs.lemmas.List.Elements.{All-filter, All-from_recursion, All-map, All-weaker, recursion_from_All}
 use Rattle.std.specs.List.{Any, Contains, list_any, AllByRecursion as Each}
@@ -79,7 +79,7 @@ pub stays_is : (p q : Problem) → p ≡ q → p.stays ≡ q.stays
 stays_is p q e = ap (λ (r : Problem). r.stays) e
 
 -- the stays move, and keep their attributes
-moved-attrs : (stays : List Stay) (values : List (ℕ × Fraction)) → map (λ s. s.attr) (moved stays values) ≡ map (λ s. s.attr) stays
+pub moved-attrs : (stays : List Stay) (values : List (ℕ × Fraction)) → map (λ s. s.attr) (moved stays values) ≡ map (λ s. s.attr) stays
 moved-attrs [] values = refl
 moved-attrs (s ∷ stays) values = ap (λ ns. s.attr ∷ ns) (moved-attrs stays values)
 
@@ -90,7 +90,7 @@ module _ (tree : ViewTree) (ms : MetricList) (held : List Item) (setting : Setti
   is = settled l sound
 
   moves : moved l.problem.stays l.values ≡ stays_at l.values
-  moves = moved-is l.problem.stays l.values is.attributes is.rising
+  moves = moved-is l.problem.stays l.values is.attributes is.apart
 
   pub stands : stood l ≡ stood_of (scene_at tree ms held setting l)
   stands = ap (made_problem l.problem.rows) (sym moves)
@@ -151,7 +151,7 @@ module _ (tree : ViewTree) (ms : MetricList) (held : List Item) (setting : Setti
             next = kept.next;
             top = kept.top;
             counted = record {
-              stays = ap (map (λ (s : Stay). s.attr)) stays_are ∙ moved-attrs l.problem.stays l.values ∙ kept.counted.stays;
+              stays = subst (IsPermutation (all_attributes tree.views)) (sym (ap (map (λ (s : Stay). s.attr)) stays_are ∙ moved-attrs l.problem.stays l.values)) kept.counted.stays;
               below = subst (All (λ r. r.id < setting.next_row)) (sym rows_are) (All-filter (keeps (numbers_of goes held)) (λ r. r.id < setting.next_row) l.problem.rows kept.counted.below);
               ranks = subst (All HasRank) (sym rows_are) (All-filter (keeps (numbers_of goes held)) HasRank l.problem.rows kept.counted.ranks);
               few = omega (arith, ap length rows_are, shorter (keeps (numbers_of goes held)) l.problem.rows, kept.counted.few);
@@ -202,7 +202,7 @@ module _ (tree : ViewTree) (ms : MetricList) (held : List Item) (setting : Setti
   is-settled = settled l sound
 
   moves-to : moved l.problem.stays l.values ≡ stays_at l.values
-  moves-to = moved-is l.problem.stays l.values is-settled.attributes is-settled.rising
+  moves-to = moved-is l.problem.stays l.values is-settled.attributes is-settled.apart
 
   window : is_among gone 0 ≡ false
   window = window-stays tree.views root gone going below whole.root
@@ -215,7 +215,7 @@ module _ (tree : ViewTree) (ms : MetricList) (held : List Item) (setting : Setti
       All-from_recursion (λ r. Any (λ t. Contains (attributes_in gone) t.attr) r.terms → Contains (numbers_of (goes_with gone) held) r.id) rows
       (rows-covered tree.views root gone going window ms held rows are (recursion_from_All (IsNamed tree.views) held kept.named))
 
-  can-leave : (stays : List Stay) → map (λ s. s.attr) stays ≡ all_attributes tree.views → CanLeave (record { rows = numbers_of (goes_with gone) held; attrs = attributes_in gone }) (record { rows = l.problem.rows; stays = stays })
+  can-leave : (stays : List Stay) → IsPermutation (all_attributes tree.views) (map (λ s. s.attr) stays) → CanLeave (record { rows = numbers_of (goes_with gone) held; attrs = attributes_in gone }) (record { rows = l.problem.rows; stays = stays })
   can-leave stays attrs = record {
     held = numbers-held (goes_with gone) ms held l.problem kept.are_rows is-settled.whole.rising;
     stays = have-stays tree.views root gone stays going attrs;
@@ -223,6 +223,9 @@ module _ (tree : ViewTree) (ms : MetricList) (held : List Item) (setting : Setti
     attrs_apart = apart-from-up (attributes_in gone) (attributes-up gone (gone-up tree.views root gone going whole.rising));
     covered = covers l.problem.rows kept.are_rows;
   }
+
+  moved-counted : IsPermutation (all_attributes tree.views) (map (λ s. s.attr) (moved l.problem.stays l.values))
+  moved-counted = subst (IsPermutation (all_attributes tree.views)) (sym (moved-attrs l.problem.stays l.values)) kept.counted.stays
 
   pub views-can : CanLeave (record { rows = numbers_of (goes_with gone) held; attrs = attributes_in gone }) l.problem
   views-can = can-leave l.problem.stays kept.counted.stays
@@ -236,7 +239,7 @@ module _ (tree : ViewTree) (ms : MetricList) (held : List Item) (setting : Setti
   views-leave : (rows : List Row) → rows ≡ filter (keeps (numbers_of (goes_with gone) held)) l.problem.rows
       → IsLeaving (scene_at tree ms held setting l) (without_views (scene_at tree ms held setting l) gone) rows views_leaving
   views-leave rows rows_are = record {
-    can = can-leave (moved l.problem.stays l.values) (moved-attrs l.problem.stays l.values ∙ kept.counted.stays);
+    can = can-leave (moved l.problem.stays l.values) moved-counted;
     rising = up-pairs (numbers_of (goes_with gone) held) (numbers-up (goes_with gone) ms held l.problem kept.are_rows is-settled.whole.rising);
     left = ap (λ rs. made_problem rs (other_stays (attributes_in gone) (moved l.problem.stays l.values))) rows_are ∙ sym (without-is views_leaving (stood_of (scene_at tree ms held setting l)));
   }
@@ -279,7 +282,8 @@ module _ (tree : ViewTree) (ms : MetricList) (held : List Item) (setting : Setti
           next = kept.next;
           top = kept.top;
           counted = record {
-            stays = ap (map (λ (s : Stay). s.attr)) new_stays ∙ left-attributes gone tree.views (moved l.problem.stays l.values) (moved-attrs l.problem.stays l.values ∙ kept.counted.stays);
+            stays = subst (λ (ss : List Stay). IsPermutation (all_attributes (filter (λ v. not (is_among gone v.id)) tree.views)) (map (λ s. s.attr) ss)) (sym new_stays)
+                (left-attributes gone tree.views (moved l.problem.stays l.values) moved-counted);
             below = subst (All (λ r. r.id < setting.next_row)) (sym new_rows) (All-filter (keeps (numbers_of (goes_with gone) held)) (λ r. r.id < setting.next_row) l.problem.rows kept.counted.below);
             ranks = subst (All HasRank) (sym new_rows) (All-filter (keeps (numbers_of (goes_with gone) held)) HasRank l.problem.rows kept.counted.ranks);
             few = omega (arith, ap length new_rows, shorter (keeps (numbers_of (goes_with gone) held)) l.problem.rows, kept.counted.few);

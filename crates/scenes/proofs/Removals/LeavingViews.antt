@@ -1,8 +1,9 @@
 -- The rows, the attributes and the lines that go with some views.
-use Rattle.std.proofs.Common.{◌≡◌, ◌≢◌, ◌||◌, inl, inr, ℕ, zero, suc, ◌+◌, ◌*◌, ◌<◌, ◌≤◌, Bool, true, false, cond, not, List, [], ◌∷◌, ◌++◌, map, filter, length, get_or, nat_eq, refl, sym, ap, ap₂, ◌∙◌, subst, arith, All, AllPairs, true≢false, eq-eqb, ne_eqb}
+use Rattle.std.proofs.Common.{◌≡◌, ◌≢◌, ◌||◌, inl, inr, ℕ, zero, suc, ◌+◌, ◌*◌, ◌<◌, ◌≤◌, Bool, true, false, cond, not, List, [], ◌∷◌, ◌++◌, map, filter, length, get_or, nat_eq, refl, sym, ap, ap₂, ◌∙◌, subst, arith, All, AllPairs, IsPermutation, true≢false, eq-eqb, ne_eqb}
 use Rattle.std.proofs.lemmas.Bool.{cases_eq}
 use Rattle.std.proofs.lemmas.List.Kept.{AllPairs-filter}
 use Rattle.std.proofs.lemmas.List.Elements.{filter-append, All-from_recursion, recursion_from_All, Contains-append_left, Contains-append_right, Contains-append_cases}
+use Rattle.std.proofs.lemmas.List.Sorted.{Contains-permutation}
 use Rattle.std.specs.List.{Any, Contains, list_any, AllByRecursion as Each}
 use Rattle.problem_core.specs.declared.parts.Stay.{Stay}
 use Rattle.problem_core.specs.declared.parts.Term.{Term}
@@ -19,6 +20,7 @@ use Rattle.held_items.specs.Leaving.{attributes_in, goes_with, item_numbers, num
 use Rattle.held_items.specs.Kept.{IsNamed}
 use Rattle.held_items.proofs.Removals.LeavingRows.{among-append, item-ids, none-among, Up, pairs-up}
 use Rattle.held_items.proofs.Lists.{contains-cons, contains-first}
+use Rattle.held_items.proofs.Permuted.{permuted_part}
 use Rattle.held_items.proofs.HeldRows.NextRows.{each-now}
 use Rattle.held_items.proofs.HeldRows.RequiredRows.{once}
 use Rattle.constraint_compile.specs.Suggestions.{suggested_row}
@@ -106,10 +108,12 @@ stays-left attrs (s ∷ stays) = by (is_among attrs s.attr) (stays-left attrs st
     by false rest = ap (λ ns. s.attr ∷ ns) rest
 
 -- the stays that are left are those of the views that are left
-pub left-attributes : (gone : List ℕ) (views : List LiveView) (stays : List Stay) → map (λ s. s.attr) stays ≡ all_attributes views
-    → map (λ s. s.attr) (other_stays (attributes_in gone) stays) ≡ all_attributes (filter (λ v. not (is_among gone v.id)) views)
+pub left-attributes : (gone : List ℕ) (views : List LiveView) (stays : List Stay) → IsPermutation (all_attributes views) (map (λ s. s.attr) stays)
+    → IsPermutation (all_attributes (filter (λ v. not (is_among gone v.id)) views)) (map (λ s. s.attr) (other_stays (attributes_in gone) stays))
 left-attributes gone views stays are =
-    stays-left (attributes_in gone) stays ∙ ap (filter (λ a. not (is_among (attributes_in gone) a))) are ∙ attributes-left gone views
+    subst (λ (ns : List ℕ). IsPermutation ns (map (λ s. s.attr) (other_stays (attributes_in gone) stays))) (attributes-left gone views)
+    (subst (IsPermutation (filter (λ a. not (is_among (attributes_in gone) a)) (all_attributes views))) (sym (stays-left (attributes_in gone) stays))
+    (permuted_part (λ a. not (is_among (attributes_in gone) a)) (all_attributes views) (map (λ s. s.attr) stays) are))
 
 -- ---- the numbers that go
 
@@ -153,11 +157,11 @@ module _ (p : LiveView → Bool) where
       ]
       by false g rest = Contains-append_right (view_attributes v.id) (all_attributes views) a (rest g)
 
-pub have-stays : (views : List LiveView) (root : ℕ) (gone : List ℕ) (stays : List Stay) → AreGoing views root gone → map (λ s. s.attr) stays ≡ all_attributes views → All (HasStay stays) (attributes_in gone)
+pub have-stays : (views : List LiveView) (root : ℕ) (gone : List ℕ) (stays : List Stay) → AreGoing views root gone → IsPermutation (all_attributes views) (map (λ s. s.attr) stays) → All (HasStay stays) (attributes_in gone)
 have-stays views root gone stays are attrs =
     All-from_recursion (HasStay stays) (attributes_in gone)
     (each-of-itself (HasStay stays) (attributes_in gone)
-    (λ a h. stay-of stays a (subst (λ (ns : List ℕ). Contains ns a) (sym attrs)
+    (λ a h. stay-of stays a (Contains-permutation (all_attributes views) (map (λ s. s.attr) stays) a attrs
     (some-attributes (λ v. is_among gone v.id) views a (subst (λ (ns : List ℕ). Contains (attributes_in ns) a) are.order h)))))
 
 -- ---- rows that name a leaving attribute leave

@@ -1,14 +1,17 @@
 -- The views of places, and the values of their attributes.
 use Rattle.std.proofs.Common.{◌≡◌, ℕ, zero, suc, ◌+◌, ◌*◌, ◌<◌, Bool, true, false, cond, nat_eq, List, [], ◌∷◌, length, map, take, Some, None, Option, refl, sym, ap}
-use Rattle.std.proofs.Common.{◌∙◌, ◌^◌, subst, arith, add-one, eq-eqb, ne_eqb, All}
+use Rattle.std.proofs.Common.{◌∙◌, ◌^◌, subst, arith, add-one, eq-eqb, ne_eqb, ◌++◌, ◌≤◌, All, AllPairs, IsPermutation}
 use Rattle.std.specs.Prelude.{slice_get}
 use Rattle.std.specs.List.{Contains, AllByRecursion as Each}
 use Rattle.std.proofs.lemmas.Option.{none-some, same_Some}
 use Rattle.std.proofs.lemmas.List.Elements.{All-from_recursion, recursion_from_All, Contains-append_left, Contains-append_right}
+use Rattle.std.proofs.lemmas.List.Sorted.{Contains-permutation}
 use Rattle.problem_core.specs.declared.parts.Stay.{Stay}
 use Rattle.problem_core.specs.Layout.{HasStay}
 use Rattle.view_tree.specs.Views.{IsTree, LiveView, ViewTree, view_of}
 use Rattle.held_items.specs.Attributes.{all_attributes, view_attributes}
+use Rattle.frac_core.proofs.Lists.{pairs-nil, pairs-rest}
+use Rattle.held_items.proofs.Lists.{four-rising, rising-append}
 use Rattle.held_items.proofs.Views.Attributes.{contains-left, contains-top, contains-width, contains-height}
 
 -- ---- places of views
@@ -56,7 +59,7 @@ view-small t i v tree at =
 
 -- ---- the attributes of a view
 
-among : (views : List LiveView) (i : ℕ) (v : LiveView) (a : ℕ) → slice_get views i ≡ Some v → Contains (view_attributes v.id) a → Contains (all_attributes views) a
+pub among : (views : List LiveView) (i : ℕ) (v : LiveView) (a : ℕ) → slice_get views i ≡ Some v → Contains (view_attributes v.id) a → Contains (all_attributes views) a
 among [] i v a at inside = absurd (none-some v at)
 among (w ∷ views) zero v a at inside =
     Contains-append_left (view_attributes w.id) (all_attributes views) a (subst (λ (u : LiveView). Contains (view_attributes u.id) a) (sym (same_Some w v at)) inside)
@@ -70,10 +73,35 @@ stay-of (s ∷ stays) a (suc k, within, is) =
     (suc rest.0, rest.1, omega (arith, rest.2), rest.3, rest.4)
 
 -- each attribute of the view at a place has a stay
-pub view-stays : (stays : List Stay) (views : List LiveView) (i : ℕ) (v : LiveView) → map (λ s. s.attr) stays ≡ all_attributes views → slice_get views i ≡ Some v → All (HasStay stays) (view_attributes v.id)
+pub view-stays : (stays : List Stay) (views : List LiveView) (i : ℕ) (v : LiveView) → IsPermutation (all_attributes views) (map (λ s. s.attr) stays) → slice_get views i ≡ Some v → All (HasStay stays) (view_attributes v.id)
 view-stays stays views i v are at =
     All-from_recursion (HasStay stays) (view_attributes v.id)
     (has (4 * v.id + 1) (contains-left v.id), (has (4 * v.id + 2) (contains-top v.id), (has (4 * v.id + 3) (contains-width v.id), (has (4 * v.id + 4) (contains-height v.id), tt))))
   where
     has : (a : ℕ) → Contains (view_attributes v.id) a → HasStay stays a
-    has a inside = stay-of stays a (subst (λ (attrs : List ℕ). Contains attrs a) (sym are) (among views i v a at inside))
+    has a inside = stay-of stays a (Contains-permutation (all_attributes views) (map (λ s. s.attr) stays) a are (among views i v a at inside))
+
+-- ---- the attributes of all views
+
+-- those of the views up to the next place
+pub attributes-next : (views : List LiveView) (i : ℕ) (v : LiveView) → slice_get views i ≡ Some v → all_attributes (take (i + 1) views) ≡ all_attributes (take i views) ++ view_attributes v.id
+attributes-next views i v at = ap (λ (n : ℕ). all_attributes (take n views)) (add-one i) ∙ on views i v at
+  where
+    on : (views : List LiveView) (i : ℕ) (v : LiveView) → slice_get views i ≡ Some v → all_attributes (take (suc i) views) ≡ all_attributes (take i views) ++ view_attributes v.id
+    on [] i v at = absurd (none-some v at)
+    on (w ∷ views) zero v at = ap (λ (u : LiveView). view_attributes u.id) (same_Some w v at)
+    on (w ∷ views) (suc i) v at = ap (λ (ns : List ℕ). view_attributes w.id ++ ns) (on views i v at)
+
+-- they rise where the views' numbers do
+pub attributes-rise : (views : List LiveView) → AllPairs (λ v w. v.id < w.id) views → AllPairs (λ a b. a < b) (all_attributes views)
+attributes-rise [] h = pairs-nil (λ (a b : ℕ). a < b)
+attributes-rise (v ∷ views) h =
+    rising-append (λ (n : ℕ). n) (view_attributes v.id) (all_attributes views) (4 * v.id + 5)
+    (four-rising (λ (n : ℕ). n) (4 * v.id + 1) (4 * v.id + 2) (4 * v.id + 3) (4 * v.id + 4) (omega arith) (omega arith) (omega arith))
+    (attributes-rise views (pairs-rest (λ (u w : LiveView). u.id < w.id) v views h))
+    (All-from_recursion (λ a. a < 4 * v.id + 5) (view_attributes v.id) (omega arith, (omega arith, (omega arith, (omega arith, tt)))))
+    (All-from_recursion (λ a. 4 * v.id + 5 ≤ a) (all_attributes views) (above views (recursion_from_All (λ w. v.id < w.id) views (λ k d within. h 0 (suc k) d (omega arith) (omega (arith, within))))))
+  where
+    above : (ws : List LiveView) → Each (λ w. v.id < w.id) ws → Each (λ a. 4 * v.id + 5 ≤ a) (all_attributes ws)
+    above [] g = tt
+    above (w ∷ ws) g = (omega (arith, g.0), (omega (arith, g.0), (omega (arith, g.0), (omega (arith, g.0), above ws g.1))))

@@ -1,6 +1,8 @@
 // The problems of drafts that no engine has taken.
-ghost use Rattle.std.specs.Prelude.{◌≡◌, ◌++◌, ◌∷◌, [], All, IfOk, filter, not};
+ghost use Rattle.std.specs.Prelude.{◌≡◌, ◌≢◌, ◌++◌, ◌∷◌, [], All, AllPairs, IfOk, filter, not};
+ghost use Rattle.problem_core.specs.Layout.{HasStay};
 ghost use Rattle.problem_core.specs.Kept.{IsRow, IsWhole};
+ghost use Rattle.layout_solver.specs.Keeping.{with_kept};
 ghost use Rattle.layout_solver.specs.Layouts.{stays_at, with_added, zeros};
 ghost use Rattle.layout_solver.specs.Removals.{CanLeave, with_removed};
 ghost use Rattle.layout_solver.specs.Shifts.{shifted};
@@ -13,6 +15,7 @@ use crate::scene::frames::value_of;
 use frac_core::{Frac, OutOfMemory};
 use layout_solver::{Change, Engine};
 use problem_core::{Problem, Row, Stay};
+use stay_orders::in_front;
 use std::alloc::Global;
 
 // The stays, at the present values.
@@ -79,6 +82,19 @@ pub fn with_rows(alloc: Global, engine: &Engine, rows: Vec<Row>) -> Result<Probl
     engine.show_layout(); // for the proof: what an engine keeps
     let stays = moved_stays(alloc, engine)?;
     Ok(Problem::of(rows, stays))
+}
+
+/// The problem with the stays of these attributes first, all at the present values.
+pub fn with_first(alloc: Global, engine: &Engine, attrs: &[u32]) -> Result<Problem, OutOfMemory>
+    requires held { All (HasStay engine.now.problem.stays) attrs.now }
+    requires apart { AllPairs (λ a b. a ≢ b) attrs.now }
+    ensures { IfOk result (λ p. p ≡ with_kept engine.now attrs.now) }
+{
+    engine.show_layout(); // for the proof: what an engine keeps
+    let stays = moved_stays(alloc, engine)?;
+    let order = in_front(alloc, &stays, attrs)?;
+    let rows = rows_after(alloc, engine.rows(), &[])?;
+    Ok(Problem::of(rows, order))
 }
 
 // Copies of the rows that have none of these numbers.

@@ -12,31 +12,29 @@ ghost use Rattle.layout_solver.specs.Shifts.{shifted};
 ghost use Rattle.held_items.specs.declared.limits.TheConstants.{MOST_ROWS};
 ghost use Rattle.held_items.specs.declared.row_numbers.TheConstants.{INTRINSIC_ROWS, SIZE_ROWS, VIEW_ROWS};
 ghost use Rattle.scenes.specs.Drafts.{IsNearIntrinsic, IsNearSuggestion, IsNextIntrinsic, IsNextSuggestion};
-ghost use Rattle.scenes.specs.Drafts.{metrics_draft, preferred_draft};
+ghost use Rattle.scenes.specs.Drafts.{IsThere, metrics_draft, preferred_draft};
 ghost use Rattle.held_items.specs.Attributes.{IsNextLine};
 ghost use Rattle.scenes.specs.Drafts.{AreComing, again_draft, coming_draft, left_draft, window_draft};
 ghost use Rattle.held_items.specs.Items as held;
-ghost use Rattle.held_items.specs.declared.item.coming.NewViews as coming;
 ghost use Rattle.held_items.specs.Items.{has_size, size_of};
 ghost use Rattle.scenes.specs.Kept.{IsNextItem};
 ghost use Rattle.held_items.specs.Kept.{size_in};
 ghost use Rattle.scenes.specs.Leaving.{without_group, without_intrinsic, without_suggestion, without_views};
 ghost use Rattle.scenes.specs.Steps.{IsProblemOf};
 ghost use Rattle.scenes.specs.Moving.{AreChangesFor, MayLackChanges};
-ghost use Rattle.scenes.specs.Scene.{AreRisingStays, moved, problem_of, with_direction, with_intrinsic};
-ghost use Rattle.scenes.specs.Scene.{with_item, with_line};
-ghost use Rattle.scenes.specs.Scene.{with_suggestion};
+ghost use Rattle.scenes.specs.Scene.{problem_of, with_direction, with_intrinsic, with_item, with_line};
+ghost use Rattle.scenes.specs.Scene.{with_kept, with_suggestion};
 ghost use Rattle.script_text.specs.declared.words.Direction.{Direction};
 
 use crate::scene::Scene;
-use crate::scene::drafts::{as_held, rows_after, with_less, with_more, with_rows};
+use crate::scene::drafts::{as_held, rows_after, with_first, with_less, with_more, with_rows};
 use compile_parts::LargeConstant;
 use constraint_compile::{Compiled, Suggestion};
 use frac_core::{OutOfMemory, Stop};
 use held_items::{
     HeldSize, IntrinsicSize, Leaver, NewViews, WindowSize, attributes_from, attributes_in,
     constants_naming, intrinsic_changes, intrinsic_rows, leaving_numbers, moves, size_changes,
-    size_of, size_rows, suggestion_rows, view_rows,
+    size_of, size_rows, suggestion_rows, view_attributes, view_rows,
 };
 use layout_solver::Change;
 use name_tables::Metrics;
@@ -45,18 +43,6 @@ use script_text::AttrWord;
 use view_tree::ViewId;
 
 impl Scene {
-    /// Shows that the attributes of the stays rise: of this scene's, of those at its values, and of those
-    /// once views have come.
-    pub fn show_stays(&self)
-        ensures held { AreRisingStays self.now.scene.stays }
-        ensures moved { AreRisingStays (moved self.now.scene.stays self.now.scene.values) }
-        ensures coming { (new : coming.NewViews) → AreComing self.now.scene new
-            → AreRisingStays (coming_draft self.now.scene new).stays }
-    {
-        self.engine.show_layout(); // for the proof: what an engine keeps
-        let _count = self.tree.len(); // for the proof: what a tree keeps
-    }
-
     /// The problem of the rows of all that is held.
     pub fn problem(&self) -> Result<Problem, OutOfMemory>
         ensures { IfOk result (λ p. p ≡ problem_of self.now.scene) }
@@ -238,6 +224,16 @@ impl Scene {
     {
         self.engine.show_layout(); // for the proof: what an engine keeps
         self.constants_problem(&[])
+    }
+
+    /// The problem with the stays of the view first: the rows are as they are.
+    pub fn kept_problem(&self, view: ViewId) -> Result<Problem, OutOfMemory>
+        requires { IsThere self.now.scene view.0 }
+        ensures { IfOk result (IsProblemOf (with_kept self.now.scene view.0)) }
+    {
+        self.engine.show_layout(); // for the proof: what an engine keeps
+        let _count = self.tree.len(); // for the proof: what a tree keeps
+        with_first(self.alloc, &self.engine, &view_attributes(view.0))
     }
 
     /// The problem without the lines of a group.

@@ -1,10 +1,12 @@
 // The engine's changes, as a scene tells them. The items are marked before, if nothing else is said; after a
 // stop those of before the mark are back, and the engine is as before.
-ghost use Rattle.std.specs.Prelude.{◌≡◌, ◌<◌, ◌≤◌, ◌∷◌, ◌++◌, length, IfOk, IfErr, OnOk, OnErr};
+ghost use Rattle.std.specs.Prelude.{◌≡◌, ◌≢◌, ◌<◌, ◌≤◌, [], ◌∷◌, length, IfOk, IfErr, OnOk, OnErr};
 ghost use Rattle.std.specs.Prelude.{All, AllPairs};
-ghost use Rattle.problem_core.specs.Kept.{IsWhole, AreRising};
+ghost use Rattle.problem_core.specs.Kept.{IsWhole};
+ghost use Rattle.problem_core.specs.Layout.{HasStay};
 ghost use Rattle.layout_solver.specs.Begins.{IsStopFrom};
-ghost use Rattle.layout_solver.specs.Layouts.{AreBest, solution_of, with_added, zeros};
+ghost use Rattle.layout_solver.specs.Keeping.{AreAtStays, NoConflict, with_kept};
+ghost use Rattle.layout_solver.specs.Layouts.{AreBest, IsKeptLayout, solution_of, with_added};
 ghost use Rattle.layout_solver.specs.Removals.{CanLeave, IsRemoveStop, stood, with_removed};
 ghost use Rattle.layout_solver.specs.Shifts.{AreKept, CanShift, with_shifts};
 ghost use Rattle.version_list.specs.declared.TheConstants.{VERSION_LIMIT};
@@ -33,7 +35,6 @@ pub fn take_more(
     requires marked { 0 < length items.old.before }
     requires room { length engine.old.earlier < VERSION_LIMIT }
     requires whole { IsWhole (with_added engine.old attrs.now rows.now) }
-    requires rising { AreRising (engine.old.values ++ zeros attrs.now) }
     ensures done { OnOk result (engine.new.problem ≡ with_added engine.old attrs.now rows.now) }
     ensures best { OnOk result (AreBest engine.new.problem engine.new.values) }
     ensures run { IfOk result (λ _. LeadsTo (from_corner engine.old rows.now) engine.new budget) }
@@ -78,6 +79,43 @@ pub fn take_constants(
     ensures back { OnErr result (items.old.before ≡ items.new.items ∷ items.new.before) }
 {
     match engine.shift(to, budget) {
+        Ok(()) => {
+            engine.show_layout(); // for the proof: what an engine keeps
+            Ok(())
+        }
+        Err(stop) => {
+            items.back();
+            Err(stop)
+        }
+    }
+}
+
+/// Puts the stays of these attributes first, with all stays at the present values, and goes on to the best
+/// values.
+pub fn take_kept(
+    engine: &mut Engine,
+    items: &mut VersionList<Item>,
+    attrs: &[u32],
+    budget: u64,
+) -> Result<(), RunStop>
+    requires marked { 0 < length items.old.before }
+    requires room { length engine.old.earlier < VERSION_LIMIT }
+    requires held { All (HasStay engine.old.problem.stays) attrs.now }
+    requires apart { AllPairs (λ a b. a ≢ b) attrs.now }
+    ensures done { OnOk result (engine.new.problem ≡ with_kept engine.old attrs.now) }
+    ensures best { OnOk result (AreBest engine.new.problem engine.new.values) }
+    ensures values { OnOk result (AreAtStays engine.new) }
+    ensures layout { OnOk result (IsKeptLayout engine.new) }
+    ensures run { IfOk result (λ _. LeadsTo (from_corner engine.old []) engine.new budget) }
+    ensures stop { IfErr result
+        (IsStopFrom (from_corner engine.old []) (with_kept engine.old attrs.now) budget) }
+    ensures free { IfErr result NoConflict }
+    ensures earlier { OnOk result (engine.new.earlier ≡ solution_of engine.old ∷ engine.old.earlier) }
+    ensures items { OnOk result (items.new ≡ items.old) }
+    ensures same { OnErr result (engine.new ≡ engine.old) }
+    ensures back { OnErr result (items.old.before ≡ items.new.items ∷ items.new.before) }
+{
+    match engine.keep(attrs, budget) {
         Ok(()) => {
             engine.show_layout(); // for the proof: what an engine keeps
             Ok(())

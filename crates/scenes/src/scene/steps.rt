@@ -11,7 +11,8 @@ ghost use Rattle.held_items.specs.declared.limits.TheConstants.{MOST_ROWS};
 ghost use Rattle.held_items.specs.declared.row_numbers.TheConstants.{INTRINSIC_ROWS, SIZE_ROWS, VIEW_ROWS};
 ghost use Rattle.layout_solver.specs.Shifts.{AreKept};
 ghost use Rattle.scenes.specs.Drafts.{IsNearIntrinsic, IsNearRenewal, IsNearSuggestion, IsNextIntrinsic};
-ghost use Rattle.scenes.specs.Drafts.{IsNextSuggestion, metrics_draft, preferred_draft, renewed_draft};
+ghost use Rattle.scenes.specs.Drafts.{IsNextSuggestion, IsThere, metrics_draft, preferred_draft};
+ghost use Rattle.scenes.specs.Drafts.{renewed_draft};
 ghost use Rattle.held_items.specs.Attributes.{IsNextLine};
 ghost use Rattle.scenes.specs.Drafts.{AreComing, Removing, RemovingStops, Solving, SolvingStops};
 ghost use Rattle.scenes.specs.Drafts.{again_draft, coming_draft, item_draft, left_draft, window_draft};
@@ -22,18 +23,20 @@ ghost use Rattle.scenes.specs.Leaving.{without_group, without_intrinsic, without
 ghost use Rattle.held_items.specs.Moving.{IsFarSize};
 ghost use Rattle.scenes.specs.Moving.{AreChangesFor};
 ghost use Rattle.scenes.specs.Scene.{AreDraftRows, IsBestScene, Remembers};
-ghost use Rattle.scenes.specs.Scene.{with_direction, with_intrinsic, with_line, with_suggestion};
+ghost use Rattle.scenes.specs.Scene.{values_by_number, with_direction, with_intrinsic, with_kept};
+ghost use Rattle.scenes.specs.Scene.{with_line, with_suggestion};
 
 use crate::scene::Scene;
 use crate::scene::past::{Past, keep};
-use crate::scene::solving::{take_constants, take_gone, take_more, take_out};
+use crate::scene::solving::{take_constants, take_gone, take_kept, take_more, take_out};
 use cert_core::RunStop;
 use constraint_compile::{Compiled, Suggestion};
 use frac_core::OutOfMemory;
 use held_items::{
     HeldSize, IntrinsicSize, Item, Leaver, NewViews, Renewal, VIEW_ROWS, WindowSize,
     attributes_from, intrinsic_changes, intrinsic_rows, leaving_numbers, push_item, push_views,
-    renew, size_changes, size_of, size_rows, suggestion_rows, take_leaving_out, view_rows,
+    renew, size_changes, size_of, size_rows, suggestion_rows, take_leaving_out, view_attributes,
+    view_rows,
 };
 use layout_solver::{Change, RemoveStop};
 use name_tables::{Metrics, OwnedName};
@@ -332,6 +335,33 @@ impl Scene {
         self.items.mark();
         let past = Past::alike(self.setting);
         self.setting.direction = to;
+        keep(
+            &mut self.items,
+            &mut self.engine,
+            &mut self.pasts,
+            past,
+            self.undo,
+        );
+        Ok(())
+    }
+
+    /// Puts the stays of the view before all others: what it is moved by then moves the other views, and not
+    /// it. The rows and the values are as before, and the stays stand at these.
+    pub fn keep_view(&mut self, view: ViewId, budget: u64) -> Result<(), RunStop>
+        requires { IsThere self.old.scene view.0 }
+        ensures solved { Solving self.old (with_kept self.old.scene view.0) budget self.new result }
+        ensures values { OnOk result (values_by_number self.new.scene ≡ values_by_number self.old.scene) }
+        ensures stop { SolvingStops self.old (with_kept self.old.scene view.0) budget result }
+        ensures free { IfErr result NoConflict }
+        ensures earlier { OnOk result (Remembers self.old self.new) }
+        ensures same { OnErr result (self.new ≡ self.old) }
+    {
+        self.engine.show_layout(); // for the proof: what an engine keeps
+        let _count = self.tree.len(); // for the proof: what a tree keeps
+        let attrs = view_attributes(view.0);
+        self.items.mark();
+        take_kept(&mut self.engine, &mut self.items, &attrs, budget)?;
+        let past = Past::alike(self.setting);
         keep(
             &mut self.items,
             &mut self.engine,

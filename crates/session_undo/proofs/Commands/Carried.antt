@@ -19,8 +19,8 @@ use Rattle.scenes.specs.Steps.{IsProblemOf}
 use Rattle.session_undo.specs.declared.draft.Draft.{Draft}
 use Rattle.session_undo.specs.declared.draft.Draft.TheVariants as draft
 use Rattle.session_undo.specs.Adding.{NoEnd, NoOther}
-use Rattle.session_undo.specs.Asking.{Any, AsksFor, EndsAs, Free, IsDraft, Kind, Left, Plain, Turned, drafted, kind_for, kind_of}
-use Rattle.session_undo.specs.Machine.{Ends, Poses, PosesDraft, PosesScene, Sizes, Suggests, Tried, TriedBranch, TriedDrop, TriedLine, TriedMetric, TriedRelease, TriedRemove, TriedSize, TriedSuggest, TriedTree, TriedUnsize, TriedView, TriedWindow, parent_name}
+use Rattle.session_undo.specs.Asking.{Any, AsksFor, EndsAs, Free, IsDraft, Kept, Kind, Left, Plain, Turned, drafted, kind_for, kind_of}
+use Rattle.session_undo.specs.Machine.{Ends, Poses, PosesDraft, PosesScene, Sizes, Suggests, Tried, TriedBranch, TriedDrop, TriedKeep, TriedLine, TriedMetric, TriedRelease, TriedRemove, TriedSize, TriedSuggest, TriedTree, TriedUnsize, TriedView, TriedWindow, parent_name}
 use Rattle.session_undo.specs.Replies.{Done, Kind as Wrong, Limit, NoEarlier, Outside, Reply, Taken, Unknown, is_accepted}
 use Rattle.session_undo.specs.State.{State}
 use Rattle.session_undo.proofs.Commands.Chains.{metric-causes, view-causes, window-causes}
@@ -129,6 +129,10 @@ module _ (old : State) (scene : Scene) (End : Scene → Reply → State → Type
   carry-unsize name (inr (a, (view, found, inl (h, is, same)))) = absurd (refused (Unknown (intrinsic_name name)) refl is)
   carry-unsize name (inr (a, (view, found, inr (b, is)))) = inr (a, (view, found, inr (b, ended _ is)))
 
+  carry-keep : (name : List ℕ) → TriedKeep old name (AsksFor scene) Done old → TriedKeep old name End reply new
+  carry-keep name (inl (h, is, same)) = absurd (refused (Unknown name) refl is)
+  carry-keep name (inr (a, (view, found, is))) = inr (a, (view, found, ended _ is))
+
   carry-remove : (group : List ℕ) → TriedRemove old group (AsksFor scene) Done old → TriedRemove old group End reply new
   carry-remove group (inl (h, is, same)) = absurd (refused (Unknown group) refl is)
   carry-remove group (inr (a, is)) = inr (a, ended _ is)
@@ -161,6 +165,7 @@ module _ (old : State) (scene : Scene) (End : Scene → Reply → State → Type
   carried (mean.Turn to) Other h = ended _ h
   carried (mean.Size name width height hug resist) Other h = carry-size name width height hug resist h
   carried (mean.Unsize name) Other h = carry-unsize name h
+  carried (mean.Keep name) Other h = carry-keep name h
 
 -- ---- causes
 
@@ -188,6 +193,8 @@ caused old mean.Certify End Other reply new (levels, is, never) = absurd never
 caused old (mean.Turn to) End Other reply new h = absurd h
 caused old (mean.Size name width height hug resist) End Other reply new h = size-causes old width height hug resist End reply new name h
 caused old (mean.Unsize name) End Other reply new h = unsize-causes old name End reply new h
+caused old (mean.Keep name) End Other reply new (inl h) = inl h
+caused old (mean.Keep name) End Other reply new (inr (a, (view, found, never))) = absurd never
 
 -- ---- kinds
 
@@ -196,6 +203,7 @@ is_plain Free = false
 is_plain Any = false
 is_plain Left = false
 is_plain Turned = false
+is_plain Kept = false
 is_plain Plain = true
 
 never-plain : (d : Draft) → is_plain (kind_of d) ≡ false
@@ -206,6 +214,7 @@ never-plain (draft.GroupOut group) = refl
 never-plain (draft.SuggestionOut view word) = refl
 never-plain (draft.IntrinsicOut view) = refl
 never-plain (draft.Turn to) = refl
+never-plain (draft.Keep view) = refl
 
 not-plain : (d : Draft) → kind_of d ≡ Plain → ⊥
 not-plain d is = true≢false (sym (ap is_plain is) ∙ never-plain d)
@@ -231,6 +240,7 @@ ends-for old mean.Certify scene reply new h = absurd h
 ends-for old (mean.Turn to) scene reply new h = h
 ends-for old (mean.Size name width height hug resist) scene reply new h = h
 ends-for old (mean.Unsize name) scene reply new h = h
+ends-for old (mean.Keep name) scene reply new h = h
 
 -- ---- what a draft comes to
 
@@ -263,3 +273,4 @@ drafted-poses old mean.Certify d p is of = absurd (not-plain d is.kind_is)
 drafted-poses old (mean.Turn to) d p is of = carried old (drafted old.scene d) (PosesDraft p) Done old of (mean.Turn to) (PosesScene old p) is.asks
 drafted-poses old (mean.Size name width height hug resist) d p is of = carried old (drafted old.scene d) (PosesDraft p) Done old of (mean.Size name width height hug resist) (PosesScene old p) is.asks
 drafted-poses old (mean.Unsize name) d p is of = carried old (drafted old.scene d) (PosesDraft p) Done old of (mean.Unsize name) (PosesScene old p) is.asks
+drafted-poses old (mean.Keep name) d p is of = carried old (drafted old.scene d) (PosesDraft p) Done old of (mean.Keep name) (PosesScene old p) is.asks

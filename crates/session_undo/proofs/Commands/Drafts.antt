@@ -1,5 +1,5 @@
 -- What the parts of a command come to: its draft.
-use Rattle.std.proofs.Common.{◌≡◌, ◌+◌, ◌*◌, ◌^◌, ◌≤◌, ℕ, List, Option, true, length, refl, sym, ap, subst, arith}
+use Rattle.std.proofs.Common.{◌≡◌, ◌∙◌, ◌+◌, ◌*◌, ◌^◌, ◌≤◌, ℕ, List, Option, true, length, refl, sym, ap, subst, arith, inr}
 use Rattle.std.specs.Global.{Vec}
 use Rattle.std.specs.List.{list_any}
 use Rattle.frac_core.specs.Fraction.{Fraction}
@@ -20,7 +20,7 @@ use Rattle.vfl_text.specs.Formats.{FormatMeaning}
 use Rattle.view_tree.specs.JsonTrees.{size}
 use Rattle.view_tree.specs.Views.{ViewTree}
 use Rattle.view_tree.specs.declared.view.ViewId.{ViewId}
-use Rattle.scenes.specs.Drafts.{AreComing, HasRoomFor, views_draft}
+use Rattle.scenes.specs.Drafts.{AreComing, HasRoomFor, IsViewNamed, views_draft}
 use Rattle.scenes.specs.declared.scene.updates.NewLine.{NewLine}
 use Rattle.scenes.specs.declared.scene.updates.NewMetrics.{NewMetrics}
 use Rattle.scenes.specs.declared.scene.updates.Update.TheVariants as update
@@ -38,6 +38,8 @@ use Rattle.session_undo.proofs.Commands.Rooms.{room-fits, room-numbers}
 use Rattle.session_undo.proofs.Commands.SizeSteps.{first-size-next, first-size-passed, later-size-near, later-size-passed, unsize-passed}
 use Rattle.session_undo.proofs.Commands.SuggestionSteps.{first-next, first-passed, later-near, later-passed, release-passed}
 use Rattle.session_undo.proofs.Commands.TreeChains.{tree-passed}
+use Rattle.scenes.specs.Scene.{with_kept}
+use Rattle.std.proofs.lemmas.Option.{none-some}
 
 module _ (old : State) (within : AreWithin old.limits) where
   has-room : (n : ℕ) → (IsCrowded old n → ⊥) → HasRoomFor old.scene n
@@ -149,6 +151,13 @@ pub unsize-draft : (old : State) (name : List ℕ) (view : ViewId) → IsHeldInt
 unsize-draft old name view held = record {
   asks = unsize-passed old name view.0 (AsksFor (drafted old.scene (draft.IntrinsicOut view))) Done old held refl;
   may = tt;
+  kind_is = refl;
+}
+
+pub keep-draft : (old : State) (name : List ℕ) (view : ViewId) → IsViewNamed old.scene name view.0 → IsDraft old (mean.Keep name) (draft.Keep view)
+keep-draft old name view (v, found, same) = record {
+  asks = inr ((λ none. none-some v (sym none ∙ found)), (v, found, ap (with_kept old.scene) (sym same)));
+  may = (name, (v, found, same));
   kind_is = refl;
 }
 

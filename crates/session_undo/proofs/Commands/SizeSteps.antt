@@ -6,7 +6,7 @@ use Rattle.frac_core.specs.Fraction.{Fraction}
 use Rattle.span_text.specs.Objects.{Meant, object_view}
 use Rattle.span_text.specs.declared.object.Object.{Object}
 use Rattle.view_tree.specs.Views.{LiveView, view_named}
-use Rattle.compile_parts.specs.Meaning.{IsRank, IsRowRank, unknown_object}
+use Rattle.compile_parts.specs.Meaning.{IsRowRank, unknown_object}
 use Rattle.compile_parts.specs.declared.stops.KindWord.TheVariants as kind
 use Rattle.name_tables.specs.declared.stops.LimitWord.TheVariants as word
 use Rattle.held_items.specs.declared.item.intrinsic.IntrinsicSize.{IntrinsicSize}

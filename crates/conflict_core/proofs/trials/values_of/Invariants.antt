@@ -1,5 +1,6 @@
-use Rattle.std.proofs.Common.{◌≡◌, take}
+use Rattle.std.proofs.Common.{◌≡◌, map, take}
+use Rattle.problem_core.specs.Gaps.{value_of}
 use Rattle.conflict_core.proofs.trials.values_of.Given as goal
 
-abbrev pub invariant-loop-stay : goal.invariant-loop-stay
-invariant-loop-stay l = l.pairs.items ≡ take l.stay-index l.e.values
+abbrev pub invariant-loop-attr : goal.invariant-loop-attr
+invariant-loop-attr l = l.pairs.items ≡ map (λ a. (a, value_of l.e.values a)) (take l.attr-index l.attrs)

@@ -1,4 +1,4 @@
-use Rattle.conflict_core.proofs.GivingWay.{begun_rise, begun_way, begun_whole}
+use Rattle.conflict_core.proofs.GivingWay.{begun_way, begun_whole}
 use Rattle.conflict_core.proofs.TrialAdds.{has_room}
 use Rattle.conflict_core.proofs.yielding.begin.Goals as goal
 
@@ -8,10 +8,6 @@ add-requires-clause-room c = has_room c.args.e.now c.requires.nothing
 pub add-requires-clause-whole : goal.add-requires-clause-whole
 add-requires-clause-whole c =
     begun_whole c.args.t.now.problem.now c.args.s.now.rows.items c.args.to.now c.args.e.now c.args.t.now.attrs.now c.args.rows.now c.requires.nothing c.requires.trials.attrs c.requires.rows c.show_whole.ensures c.requires.kept
-
-pub add-requires-clause-rising : goal.add-requires-clause-rising
-add-requires-clause-rising c =
-    begun_rise c.args.t.now.problem.now c.args.s.now.rows.items c.args.to.now c.args.e.now c.args.t.now.attrs.now c.args.rows.now c.requires.nothing c.requires.trials.attrs c.requires.rows c.requires.trials.rising
 
 pub returns : goal.returns
 returns c =

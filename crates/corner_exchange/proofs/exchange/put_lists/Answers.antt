@@ -14,3 +14,6 @@ fill_slot-requires-clause-change c =
     change_there (lists_of c.args.table.now) (lists_of c.put_changes.new.table) c.args.made.entering
     (ap (λ (t : Lists). t.slots) c.in_ok-put_changes.ensures.ok ∙ changes_keep (lists_of c.clear_slot.new.table) c.args.made.changes.items ∙ ap (λ (t : Lists). t.slots) c.in_ok-clear_slot.ensures.ok)
     c.requires.entering
+
+pub put_changes-requires-clause-slots : goal.put_changes-requires-clause-slots
+put_changes-requires-clause-slots c = subst AreSlots (sym c.in_ok-clear_slot.ensures.ok) (cleared_slots (lists_of c.args.table.now) c.args.made.pair.leave c.requires.slots)

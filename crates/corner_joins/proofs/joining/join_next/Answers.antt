@@ -1,3 +1,4 @@
+use Rattle.std.proofs.Common.{inl}
 use Rattle.cert_core.specs.declared.stops.RunStop.TheVariants.{OutOfMemory}
 use Rattle.corner_table.specs.Tables.{lists_of}
 use Rattle.corner_joins.specs.Additions.CostJoins.{IsLineCostStop}
@@ -22,3 +23,6 @@ returns-in_ok-list_row-in-Ok-true-clause-listed c = row_listed (lists_of c.join_
 
 pub returns-in-Err-clause-stop : goal.returns-in-Err-clause-stop
 returns-in-Err-clause-stop c = line_stop (lists_of c.args.table.now) (lists_of c.join_cost.new.table) c.args.line c.in-Err.stop c.added_stop.result c.in-Err.ensures.stop c.in-Err.ensures.same c.added_stop.ensures
+
+pub returns-in-Ok-false-clause-listed : goal.returns-in-Ok-false-clause-listed
+returns-in-Ok-false-clause-listed c = record { keeps = λ k has. has; listed = inl (c.in-Ok-false.ensures.costs c.in-Ok-false.field-0-test); others = λ k has. inl has }

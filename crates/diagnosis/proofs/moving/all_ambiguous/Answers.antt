@@ -1,6 +1,22 @@
-use Rattle.std.proofs.Common.{sym, subst}
-use Rattle.diagnosis.specs.Probes.{CanProbeAll}
+use Rattle.std.proofs.lemmas.Result.{IfOk-weaker}
+use Rattle.diagnosis.specs.Probes.{AreMoving, AreMovingAmong}
+use Rattle.diagnosis.proofs.MovingAttributes.{moving_of, numbers_all}
 use Rattle.diagnosis.proofs.moving.all_ambiguous.Goals as goal
 
-pub push_moving-requires-clause-can : goal.push_moving-requires-clause-can
-push_moving-requires-clause-can c = subst CanProbeAll (sym c.loop-at.invariant.same) c.requires.can
+pub numbers_of-requires : goal.numbers_of-requires
+numbers_of-requires c = rw c.stays.ensures c.show_layout.ensures.whole.apart
+
+pub moving_among-requires-clause-held : goal.moving_among-requires-clause-held
+moving_among-requires-clause-held c =
+    rw c.deref.ensures.value
+    (numbers_all c.args.e.now.problem.stays c.in_ok-attrs.attrs.items (rw c.stays.ensures at c.in_ok-attrs.ensures))
+
+pub moving_among-requires-clause-rising : goal.moving_among-requires-clause-rising
+moving_among-requires-clause-rising c = rw c.deref.ensures.value c.in_ok-attrs.ensures.rising
+
+pub returns-clause-moving : goal.returns-clause-moving
+returns-clause-moving c =
+    IfOk-weaker c.moving_among.result (λ out. AreMovingAmong c.args.e.now.problem c.args.e.now.values c.in_ok-attrs.attrs.items out.items)
+    (λ out. AreMoving c.args.e.now.problem c.args.e.now.values c.args.e.now.problem.stays out.items)
+    (λ out. moving_of c.args.e.now.problem c.args.e.now.values c.in_ok-attrs.attrs.items out.items (rw c.stays.ensures at c.in_ok-attrs.ensures))
+    (rw c.deref.ensures.value at c.moving_among.ensures.moving)

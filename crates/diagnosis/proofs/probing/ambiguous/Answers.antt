@@ -14,13 +14,13 @@ returns-in_err-above-clause-stop c =
 pub returns-then-not-is_same-clause-answer : goal.returns-then-not-is_same-clause-answer
 returns-then-not-is_same-clause-answer c =
     let other = c.is_same.ensures.no c.if-not-is_same.true in
-    let read : Read c.args.e.now c.args.attr c.value_at-value.result = record { whole = c.show_layout.ensures.whole; best = c.show_layout.ensures.best; kept = c.show_layout.ensures.kept; rising = c.show_layout.ensures.rising; can = c.requires.can; value = c.value_at-value.ensures } in
+    let read : Read c.args.e.now c.args.attr c.value_at-value.result = record { whole = c.show_layout.ensures.whole; best = c.show_layout.ensures.best; kept = c.show_layout.ensures.kept; apart = c.show_layout.ensures.apart; can = c.requires.can; value = c.value_at-value.ensures } in
     tried_up_moves c.args.e.now c.args.attr c.value_at-value.result c.in_ok-above.above read c.in_ok-above.ensures.kept c.in_ok-above.ensures.value other
 
 pub returns-in_err-below-clause-stop : goal.returns-in_err-below-clause-stop
 returns-in_err-below-clause-stop c =
     let same = c.is_same.ensures.yes c.if-not-is_same.false in
-    let read : Read c.args.e.now c.args.attr c.value_at-value.result = record { whole = c.show_layout.ensures.whole; best = c.show_layout.ensures.best; kept = c.show_layout.ensures.kept; rising = c.show_layout.ensures.rising; can = c.requires.can; value = c.value_at-value.ensures } in
+    let read : Read c.args.e.now c.args.attr c.value_at-value.result = record { whole = c.show_layout.ensures.whole; best = c.show_layout.ensures.best; kept = c.show_layout.ensures.kept; apart = c.show_layout.ensures.apart; can = c.requires.can; value = c.value_at-value.ensures } in
     let p = err_from_is_err_and c.from_residual-in_err-below.result c.from_residual-in_err-below.ensures.1 in
     rw (p.1, p.2)
     (called_for c.args.e.now c.args.attr false c.args.budget c.in_err-below.field-0.0
@@ -31,7 +31,7 @@ pub returns-then-not-is_same-2-clause-answer : goal.returns-then-not-is_same-2-c
 returns-then-not-is_same-2-clause-answer c =
     let same = c.is_same.ensures.yes c.if-not-is_same.false in
     let other = c.is_same-2.ensures.no c.if-not-is_same-2.true in
-    let read : Read c.args.e.now c.args.attr c.value_at-value.result = record { whole = c.show_layout.ensures.whole; best = c.show_layout.ensures.best; kept = c.show_layout.ensures.kept; rising = c.show_layout.ensures.rising; can = c.requires.can; value = c.value_at-value.ensures } in
+    let read : Read c.args.e.now c.args.attr c.value_at-value.result = record { whole = c.show_layout.ensures.whole; best = c.show_layout.ensures.best; kept = c.show_layout.ensures.kept; apart = c.show_layout.ensures.apart; can = c.requires.can; value = c.value_at-value.ensures } in
     tried_down_moves c.args.e.now c.args.attr c.value_at-value.result c.in_ok-below.below read c.in_ok-below.ensures.kept
     (subst (λ (l : Layout). IsTried l c.args.attr false c.in_ok-below.below) c.in_ok-above.ensures.same c.in_ok-below.ensures.value) other
     (tried_up_stays c.args.e.now c.args.attr c.value_at-value.result c.in_ok-above.above read c.in_ok-above.ensures.kept c.in_ok-above.ensures.value same)
@@ -40,6 +40,6 @@ pub returns-clause-answer : goal.returns-clause-answer
 returns-clause-answer c =
     let same = c.is_same.ensures.yes c.if-not-is_same.false in
     let also = c.is_same-2.ensures.yes c.if-not-is_same-2.false in
-    let read : Read c.args.e.now c.args.attr c.value_at-value.result = record { whole = c.show_layout.ensures.whole; best = c.show_layout.ensures.best; kept = c.show_layout.ensures.kept; rising = c.show_layout.ensures.rising; can = c.requires.can; value = c.value_at-value.ensures } in
+    let read : Read c.args.e.now c.args.attr c.value_at-value.result = record { whole = c.show_layout.ensures.whole; best = c.show_layout.ensures.best; kept = c.show_layout.ensures.kept; apart = c.show_layout.ensures.apart; can = c.requires.can; value = c.value_at-value.ensures } in
     tried_fixed c.args.e.now c.args.attr c.value_at-value.result c.in_ok-above.above c.in_ok-below.below read c.in_ok-above.ensures.kept c.in_ok-above.ensures.value same c.in_ok-below.ensures.kept
     (subst (λ (l : Layout). IsTried l c.args.attr false c.in_ok-below.below) c.in_ok-above.ensures.same c.in_ok-below.ensures.value) also

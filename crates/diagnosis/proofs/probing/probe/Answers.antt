@@ -9,12 +9,12 @@ use Rattle.diagnosis.specs.Probes.{IsBeside, IsStopped, next_num, next_number}
 use Rattle.diagnosis.proofs.Probes.ProbeStops.{stop_not_conflict, stopped}
 use Rattle.diagnosis.proofs.Probes.ProbeWhole.{made_row, probe_whole}
 use Rattle.diagnosis.proofs.probing.probe.Goals as goal
-use Rattle.problem_core.proofs.Sides.{value-is as value_is}
+use Rattle.layout_solver.proofs.ApartValues.{value_is}
 
 pub returns-in_default-clause-stop : goal.returns-in_default-clause-stop
 returns-in_default-clause-stop c = (
   refl,
-  subst (λ (v : Fraction). IsUnfitRatio (next_num c.args.up v) (pos v.den)) (value_is c.args.e.now.values c.args.attr c.value_at.result c.show_layout.ensures.rising c.value_at.ensures) c.in_default.ensures.none,
+  subst (λ (v : Fraction). IsUnfitRatio (next_num c.args.up v) (pos v.den)) (value_is c.args.e.now.values c.args.attr c.value_at.result c.show_layout.ensures.apart c.value_at.ensures) c.in_default.ensures.none,
 )
 
 pub of-requires-clause-row : goal.of-requires-clause-row
@@ -30,7 +30,7 @@ value_with-requires-clause-whole c =
 pub returns-in-Ok-clause-value : goal.returns-in-Ok-clause-value
 returns-in-Ok-clause-value c = (
   c.in-Some.target,
-  subst (λ (v : Fraction). IsBeside c.args.up v c.in-Some.target) (value_is c.args.e.now.values c.args.attr c.value_at.result c.show_layout.ensures.rising c.value_at.ensures) c.in-Some.ensures.some,
+  subst (λ (v : Fraction). IsBeside c.args.up v c.in-Some.target) (value_is c.args.e.now.values c.args.attr c.value_at.result c.show_layout.ensures.apart c.value_at.ensures) c.in-Some.ensures.some,
   c.in-Some.ensures.kept,
   (probe_whole c.args.e.now c.args.attr c.in-Some.target c.show_layout.ensures.whole c.show_layout.ensures.best.attributes c.show_layout.ensures.kept c.in-Some.ensures.kept c.requires.can).1,
   subst (λ (r : Row). IsBestValue (with_added c.args.e.now [] (r ∷ [])) c.args.attr c.in-Ok.value) (c.in_ok-row.ensures ∙ made_row c.args.e.now c.args.attr c.next_number.result c.in-Some.target (c.next_number.ensures ∙ ap next_number c.rows.ensures)) c.in-Ok.ensures.value,
@@ -47,7 +47,7 @@ pub returns-clause-stop : goal.returns-clause-stop
 returns-clause-stop c =
     subst (IsStopped c.args.e.now c.args.attr c.args.up c.args.budget) (sym c.stop_of.ensures)
     (stopped c.args.e.now c.args.attr c.args.up c.in-Some.target c.args.budget c.in-Err.stop
-    (subst (λ (v : Fraction). IsBeside c.args.up v c.in-Some.target) (value_is c.args.e.now.values c.args.attr c.value_at.result c.show_layout.ensures.rising c.value_at.ensures) c.in-Some.ensures.some)
+    (subst (λ (v : Fraction). IsBeside c.args.up v c.in-Some.target) (value_is c.args.e.now.values c.args.attr c.value_at.result c.show_layout.ensures.apart c.value_at.ensures) c.in-Some.ensures.some)
     c.in-Some.ensures.kept
     (subst (λ (r : Row). IsStopOf false (with_added c.args.e.now [] (r ∷ [])) c.args.e.now.problem.rows (FromAdded (with_added c.args.e.now [] (r ∷ [])) c.args.e.now.corner (r ∷ [])) c.args.budget c.in-Err.stop)
     (c.in_ok-row.ensures ∙ made_row c.args.e.now c.args.attr c.next_number.result c.in-Some.target (c.next_number.ensures ∙ ap next_number c.rows.ensures)) c.in-Err.ensures.stop))

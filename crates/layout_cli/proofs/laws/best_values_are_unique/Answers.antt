@@ -1,5 +1,5 @@
-use Rattle.scenes.proofs.Engines.BestValues.{best-unique}
+use Rattle.layout_solver.proofs.UniqueBest.{best_unique}
 use Rattle.layout_cli.proofs.laws.best_values_are_unique.Goals as goal
 
 pub returns : goal.returns
-returns c = best-unique
+returns c = best_unique

@@ -2,7 +2,7 @@ use Rattle.std.proofs.Common.{◌∙◌, ◌<◌, ap, length, lit<, subst, sym, 
 use Rattle.version_list.specs.declared.TheConstants.{VERSION_LIMIT}
 use Rattle.layout_solver.specs.Layouts.{Layout, Solution}
 use Rattle.scenes.proofs.First.{first-forgotten}
-use Rattle.scenes.proofs.Engines.Additions.{first-whole, first-rising}
+use Rattle.scenes.proofs.Engines.Additions.{first-whole}
 use Rattle.scenes.proofs.scene.begin.Goals as goal
 
 pub add-requires : goal.add-requires
@@ -11,7 +11,6 @@ add-requires c =
     (record {
       room = subst (λ (l : Layout). length l.earlier < VERSION_LIMIT) (sym c.requires.new) (lit< tt);
       whole = first-whole c.args.engine.now c.args.rows.now c.requires.new c.requires.rows c.requires.each;
-      rising = first-rising c.args.engine.now c.requires.new;
     })
 
 pub forget-requires : goal.forget-requires

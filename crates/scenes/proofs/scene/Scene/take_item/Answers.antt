@@ -6,7 +6,6 @@ use Rattle.held_items.specs.Kept.{item_of, items_of}
 use Rattle.scenes.specs.Kept.{IsKept, IsNextItem, scene_at}
 use Rattle.scenes.specs.Steps.{IsSolved}
 use Rattle.scenes.specs.Scene.{History, Scene, with_item}
-use Rattle.scenes.proofs.Engines.Additions.{still-rising}
 use Rattle.scenes.proofs.Histories.{few-items, few-solutions, more-items, more-solutions, next-history, kept-earlier, refused-same, unchanged-IsKept, unchanged-AreAlike}
 use Rattle.held_items.proofs.Marks.{refused-items}
 use Rattle.held_items.proofs.HeldRows.ItemRows.{items-more}
@@ -26,7 +25,6 @@ take_more-requires c = record {
   marked = omega (arith, ap length c.in_ok-push_item.ensures.before);
   room = few-solutions c.self.inside.undo c.self.inside.items.before c.self.inside.engine.earlier c.self.inside.pasts.items c.self.invariant.1;
   whole = item-whole c.self.inside.tree c.self.inside.metrics (items_of c.self.inside.items.items) c.self.inside.setting c.self.inside.engine c.self.invariant.0.scene c.show_layout.ensures.layout (item_of c.args.item) c.args.rows.now (subst (λ (h : History). IsNextItem h.scene (item_of c.args.item) c.args.rows.now) (sym c.self.view_is) c.requires.next);
-  rising = still-rising c.self.inside.engine c.show_layout.ensures.rising;
 }
 
 pub invariant_of-self-2 : goal.invariant_of-self-2

@@ -11,7 +11,7 @@ use Rattle.held_items.proofs.HeldRows.ItemRows.{all-named-append}
 use Rattle.scenes.proofs.Engines.Solved.{views-stops, views-free, views-solved, views-kept}
 use Rattle.held_items.proofs.Views.Attributes.{stays-below}
 use Rattle.scenes.proofs.Engines.Reached.{settled}
-use Rattle.scenes.proofs.Views.ViewsCome.{views-whole, views-rising, counted-views}
+use Rattle.scenes.proofs.Views.ViewsCome.{views-whole, counted-views}
 use Rattle.scenes.proofs.Histories.{few-items, few-solutions, more-items, more-solutions, next-history, kept-earlier, refused-same, unchanged-IsKept, unchanged-AreAlike}
 use Rattle.held_items.proofs.Marks.{refused-items}
 use Rattle.scenes.proofs.KeptScenes.{kept-scene}
@@ -43,7 +43,6 @@ take_more-requires c =
       marked = omega (arith, ap length c.in_ok-push_views.ensures.before);
       room = few-solutions c.self.inside.undo c.self.inside.items.before c.self.inside.engine.earlier c.self.inside.pasts.items c.self.invariant.1;
       whole = views-whole c.self.inside.tree.views c.args.new.tree.views c.self.inside.setting.next_row c.args.new.first_view.0 c.args.new.count c.self.inside.engine (settled c.self.inside.engine c.show_layout.ensures.layout) c.self.invariant.0.scene.counted (subst (λ (h : History). IsGrown h.scene.tree.views c.args.new.tree.views c.args.new.first_view.0 c.args.new.count) (sym c.self.view_is) c.requires.grown) c.in_ok-rows.rows.items c.in_ok-rows.ensures.rows c.in_ok-rows.ensures.each (subst (λ (h : History). length h.scene.rows + 2 * c.args.new.count ≤ 2000) (sym c.self.view_is) c.requires.room);
-      rising = views-rising c.self.inside.tree.views c.args.new.tree.views c.self.inside.setting.next_row c.args.new.first_view.0 c.args.new.count c.self.inside.engine (settled c.self.inside.engine c.show_layout.ensures.layout) c.self.invariant.0.scene.counted (subst (λ (h : History). IsGrown h.scene.tree.views c.args.new.tree.views c.args.new.first_view.0 c.args.new.count) (sym c.self.view_is) c.requires.grown);
     })
 
 pub returns-in_err-take_more-clause-stop : goal.returns-in_err-take_more-clause-stop

@@ -11,7 +11,7 @@ of-requires c =
     c.in_ok-append.ensures.items ∙ ap (λ (rs : List Row). rs ++ c.args.rows.items) (c.in_ok-all.ensures.rows ∙ c.rows.ensures) in
     let stays_are : c.push_zeros.new.stays.items ≡ stays_at (c.args.engine.now.values ++ zeros c.args.attrs.now) =
     c.in_ok-push_zeros.ensures ∙ ap (λ (ss : List Stay). ss ++ stays_at (zeros c.args.attrs.now)) c.in_ok-stays.ensures
-    ∙ moved-added c.args.engine.now.problem.stays c.args.engine.now.values c.args.attrs.now c.show_layout.ensures.best.attributes c.show_layout.ensures.rising in
+    ∙ moved-added c.args.engine.now.problem.stays c.args.engine.now.values c.args.attrs.now c.show_layout.ensures.best.attributes c.show_layout.ensures.apart in
     rw (rows_are, stays_are) c.requires
 
 pub returns : goal.returns
@@ -20,5 +20,5 @@ returns c =
     c.in_ok-append.ensures.items ∙ ap (λ (rs : List Row). rs ++ c.args.rows.items) (c.in_ok-all.ensures.rows ∙ c.rows.ensures) in
     let stays_are : c.push_zeros.new.stays.items ≡ stays_at (c.args.engine.now.values ++ zeros c.args.attrs.now) =
     c.in_ok-push_zeros.ensures ∙ ap (λ (ss : List Stay). ss ++ stays_at (zeros c.args.attrs.now)) c.in_ok-stays.ensures
-    ∙ moved-added c.args.engine.now.problem.stays c.args.engine.now.values c.args.attrs.now c.show_layout.ensures.best.attributes c.show_layout.ensures.rising in
+    ∙ moved-added c.args.engine.now.problem.stays c.args.engine.now.values c.args.attrs.now c.show_layout.ensures.best.attributes c.show_layout.ensures.apart in
     rw (c.of.ensures, rows_are, stays_are) refl

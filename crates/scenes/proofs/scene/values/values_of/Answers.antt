@@ -1,23 +1,27 @@
-use Rattle.std.proofs.Common.{◌≡◌, ◌∙◌, ◌++◌, ◌∷◌, [], List, ℕ, ap, sym, refl, subst}
-use Rattle.std.specs.Prelude.{IfOk}
-use Rattle.frac_core.specs.Fraction.{Fraction}
-use Rattle.scenes.proofs.Engines.Moves.{pair, valued-all, valued-next}
+use Rattle.std.proofs.Common.{◌≡◌, ◌∙◌, sym, subst, arith}
+use Rattle.problem_core.specs.Kept.{AreRising}
+use Rattle.scenes.proofs.Views.ByNumber.{four-held, read-all, read-next, read-rises, some-view}
+use Rattle.scenes.proofs.scene.values.values_of.Goals.{in-Some+in_ok-push_values, in_default}
 use Rattle.scenes.proofs.scene.values.values_of.Goals as goal
 
-pub loop-stay-preserved : goal.loop-stay-preserved
-loop-stay-preserved c =
-    let next = valued-next c.stays-held.result.now c.args.engine.now.values c.loop-stay.stay-index c.stay-item.result c.loop-stay-test.true c.stay-item.is in
-    c.in_ok-push.ensures.items ∙ ap (λ (vs : List (ℕ × Fraction)). vs ++ pair c.stay-item.result.attr c.value_of.result ∷ []) c.loop-stay.invariant ∙ sym (rw c.value_of.ensures next)
+pub push_values-requires : goal.push_values-requires
+push_values-requires c =
+    rw c.view_attributes.ensures (four-held c.args.tree.now.views c.args.engine.now.problem.stays c.loop-place.place _ (sym c.in-Some.ensures) c.requires)
 
-pub value_of-requires : goal.value_of-requires
-value_of-requires c = rw (← c.stays-held.ensures) (c.loop-stay.stay-index, c.stay-item.result, c.loop-stay-test.true, sym c.stay-item.is, refl)
+pub loop-place-preserved : goal.loop-place-preserved
+loop-place-preserved c = record {
+  within = omega (arith, c.loop-place-test.true);
+  is_end = c.loop-place.invariant.is_end;
+  pairs = elim c.match-at.branch [
+    | in-Some+in_ok-push_values w ↦
+        rw w.pairs-is
+        (read-next c.args.engine.now.values c.args.tree.now.views c.loop-place.place _ c.loop-place.pairs.items _ (sym w.in-Some.ensures) c.loop-place.invariant.pairs (rw w.view_attributes.ensures at w.in_ok-push_values.ensures))
+    | in_default w ↦ absurd (some-view c.args.tree.now.views c.loop-place.place (sym w.in_default.ensures) (omega (arith, c.loop-place-test.true, c.loop-place.invariant.is_end)))
+  ];
+}
 
 pub of-requires : goal.of-requires
 of-requires c =
-    let are : c.deref.result.now ≡ c.args.engine.now.values = c.deref.ensures.value ∙ valued-all c.args.engine.now.problem.stays c.stays-held.result.now c.args.engine.now.values c.loop-stay.pairs.items c.loop-stay.stay-index c.stays-held.ensures c.loop-stay-test.false c.loop-stay.invariant c.show_layout.ensures.best.attributes c.show_layout.ensures.rising in
-    rw are c.show_layout.ensures.rising
-
-pub returns : goal.returns
-returns c =
-    let are : c.deref.result.now ≡ c.args.engine.now.values = c.deref.ensures.value ∙ valued-all c.args.engine.now.problem.stays c.stays-held.result.now c.args.engine.now.values c.loop-stay.pairs.items c.loop-stay.stay-index c.stays-held.ensures c.loop-stay-test.false c.loop-stay.invariant c.show_layout.ensures.best.attributes c.show_layout.ensures.rising in
-    subst (λ (vs : List (ℕ × Fraction)). IfOk c.of.result (λ (values : List (ℕ × Fraction)). values ≡ vs)) are c.of.ensures
+    let are : c.deref.result.now ≡ _ =
+    c.deref.ensures.value ∙ read-all c.args.engine.now.values c.args.tree.now.views c.loop-place.place c.loop-place.pairs.items (omega (arith, c.loop-place-test.false, c.loop-place.invariant.is_end)) c.loop-place.invariant.pairs in
+    subst AreRising (sym are) (read-rises c.args.engine.now.values c.args.tree.now.views c.len-place-end.ensures.tree.rising)

@@ -14,7 +14,7 @@ use Rattle.session_undo.proofs.session.Session.explain.Goals as goal
 pub returns-clause-accepted : goal.returns-clause-accepted
 returns-clause-accepted c =
     let old = c.args.self.now in let m = view c.args.command.now in let p = c.in_ok-problem.problem in
-    IfOk-weaker c.explained.result (λ (reply : answer.Reply). Explains old p (accepted reply) old) (λ (reply : answer.Reply). WhyStep old m (accepted reply) old)
+    IfOk-weaker c.explained.result (λ (reply : answer.Reply). Explains old p (accepted reply) c.explained.new.self) (λ (reply : answer.Reply). WhyStep old m (accepted reply) c.explained.new.self)
     (λ reply explains. inr (p, c.in_ok-problem.ensures.posed, explains)) c.explained.ensures.accepted
 
 pub returns-clause-refused : goal.returns-clause-refused

@@ -1,13 +1,31 @@
-use Rattle.session_undo.specs.Kept.{session_at}
+use Rattle.std.proofs.Common.{ap, subst, sym}
+use Rattle.session_undo.specs.Explaining.{Explains}
+use Rattle.session_undo.specs.Kept.{AreLimitsOf, limits_of, session_at}
+use Rattle.session_undo.specs.Replies.{found_reply}
+use Rattle.session_undo.specs.State.{State}
+use Rattle.scenes.specs.Scene.{History}
 use Rattle.session_undo.proofs.Commands.Explained.{found-explains, stop-explains}
+use Rattle.session_undo.proofs.Commands.Steps.{after}
 use Rattle.session_undo.proofs.session.Session.explained.Goals as goal
+use Rattle.session_undo.proofs.session.Session.explained.Goals.{in-Ok, in-Err}
 
-pub returns-in-Ok-clause-accepted : goal.returns-in-Ok-clause-accepted
-returns-in-Ok-clause-accepted c =
+pub returns-clause-accepted : goal.returns-clause-accepted
+returns-clause-accepted c =
     let old = (session_at c.self.inside.scene c.self.inside.budget c.self.inside.limits c.self.inside.version) in
-    rw (← c.self.view_is) (found-explains old c.args.p.now c.show_whole.ensures c.in-Ok.found c.in-Ok.ensures.found)
+    elim c.match-core.branch [
+      | in-Ok w ↦ rw (w.result-is, ← c.self.view_is)
+          (subst (λ (new : State). Explains old c.args.p.now (found_reply w.in-Ok.found) new) (sym (ap (λ (h : History). after old h) c.core.ensures.same))
+          (found-explains old c.args.p.now c.show_whole.ensures w.in-Ok.found w.in-Ok.ensures.found))
+      | in-Err w ↦ rw w.result-is tt
+    ]
 
-pub returns-in-Err-clause-refused : goal.returns-in-Err-clause-refused
-returns-in-Err-clause-refused c =
+pub returns-clause-refused : goal.returns-clause-refused
+returns-clause-refused c =
     let old = (session_at c.self.inside.scene c.self.inside.budget c.self.inside.limits c.self.inside.version) in
-    rw (c.core_refusal.ensures, ← c.self.view_is) (stop-explains old c.args.p.now c.in-Err.stop c.in-Err.ensures.stop)
+    elim c.match-core.branch [
+      | in-Ok w ↦ rw w.result-is tt
+      | in-Err w ↦ rw (w.result-is, w.core_refusal.ensures, ← c.self.view_is) (stop-explains old c.args.p.now w.in-Err.stop w.in-Err.ensures.stop)
+    ]
+
+pub invariant_of-self : goal.invariant_of-self
+invariant_of-self c = (c.self.invariant.0, subst (λ (h : History). AreLimitsOf h (limits_of c.self.inside.limits)) (sym c.core.ensures.same) c.self.invariant.1)

@@ -1,4 +1,4 @@
-use Rattle.std.proofs.Common.{◌≡◌, ◌⊎◌, Some, None, IsSome, refl, rules}
+use Rattle.std.proofs.Common.{◌≡◌, Some, None, refl, rules}
 use Rattle.std.proofs.lemmas.Result.{err_from_is_err_and}
 use Rattle.span_text.specs.Objects.{object_view}
 use Rattle.held_items.specs.Items.{intrinsic_of}

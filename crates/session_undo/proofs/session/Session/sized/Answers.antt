@@ -1,4 +1,4 @@
-use Rattle.std.proofs.Common.{◌≡◌, None, Option, ap, sym, rules, ◌∙◌}
+use Rattle.std.proofs.Common.{◌≡◌, None, rules}
 use Rattle.view_tree.specs.Views.{view_named}
 use Rattle.held_items.specs.Items.{intrinsic_of}
 use Rattle.session_undo.specs.Adding.{NoEnd}

@@ -5,7 +5,7 @@ use Rattle.session_undo.specs.Asking.{MayTake}
 use Rattle.session_undo.specs.Kept.{AreLimitsOf, limits_of, session_at}
 use Rattle.session_undo.specs.declared.draft.Draft.TheVariants as draft
 use Rattle.session_undo.proofs.Commands.LeavingSteps.{left-accepted, left-refused}
-use Rattle.scenes.specs.Scene.{History, Scene, with_direction}
+use Rattle.scenes.specs.Scene.{History, Scene, with_direction, with_kept}
 use Rattle.session_undo.proofs.Commands.Steps.{free-accepted, free-refused, kept-end, kept-in, run-accepted, run-refused, stands}
 use Rattle.session_undo.proofs.Commands.TreeLimits.{left-most, limits-end, limits-next, solved-most, updated-most}
 use Rattle.session_undo.proofs.session.Session.take.Goals as goal
@@ -75,6 +75,16 @@ returns-in_ok-turn-in-Turn-clause-accepted c =
     let old = (session_at c.self.inside.scene c.self.inside.budget c.self.inside.limits c.self.inside.version) in
     rw (c.in-Turn.is, ← c.self.view_is) (stands (with_direction old.scene c.in-Turn.to) old c.turn.new.self c.in_ok-turn-in-Turn.ensures.turned c.in_ok-turn-in-Turn.ensures.rows c.in_ok-turn-in-Turn.ensures.best (kept-in old c.self.inside.scene c.turn.new.self refl refl c.self.invariant.1.undo c.in_ok-turn-in-Turn.ensures.earlier))
 
+pub returns-in-Keep-clause-accepted : goal.returns-in-Keep-clause-accepted
+returns-in-Keep-clause-accepted c =
+    let old = (session_at c.self.inside.scene c.self.inside.budget c.self.inside.limits c.self.inside.version) in
+    rw (c.in-Keep.is, c.answer_of-in-Keep.ensures, ← c.self.view_is) (free-accepted (with_kept old.scene c.in-Keep.view.0) old c.keep_view-end.new.self c.keep_view-end.result c.keep_view-end.ensures.solved (kept-end old c.self.inside.scene c.keep_view-end.new.self c.keep_view-end.result refl refl c.self.invariant.1.undo c.keep_view-end.ensures.earlier))
+
+pub returns-in-Keep-clause-refused : goal.returns-in-Keep-clause-refused
+returns-in-Keep-clause-refused c =
+    let old = (session_at c.self.inside.scene c.self.inside.budget c.self.inside.limits c.self.inside.version) in
+    rw (c.in-Keep.is, c.answer_of-in-Keep.ensures, ← c.self.view_is) (free-refused (with_kept old.scene c.in-Keep.view.0) old c.keep_view-end.new.self c.keep_view-end.result c.keep_view-end.ensures.stop c.keep_view-end.ensures.free)
+
 -- ---- the limits of the trees
 
 pub invariant_of-self : goal.invariant_of-self
@@ -123,3 +133,9 @@ invariant_of-self-in-Turn c = (
 pub invariant_of-self-in_err-turn-in-Turn : goal.invariant_of-self-in_err-turn-in-Turn
 invariant_of-self-in_err-turn-in-Turn c =
     (c.self.invariant.0, subst (λ (h : History). AreLimitsOf h (limits_of c.self.inside.limits)) (sym c.in_err-turn-in-Turn.ensures.same) c.self.invariant.1)
+
+pub invariant_of-self-in-Keep : goal.invariant_of-self-in-Keep
+invariant_of-self-in-Keep c = (
+  c.self.invariant.0,
+  limits-end (limits_of c.self.inside.limits) c.self.inside.scene c.keep_view-end.new.self c.keep_view-end.result c.self.invariant.1 (solved-most c.self.inside.scene (with_kept c.self.inside.scene.scene c.in-Keep.view.0) c.self.inside.budget c.keep_view-end.new.self c.keep_view-end.result refl c.keep_view-end.ensures.solved) c.keep_view-end.ensures.earlier c.keep_view-end.ensures.same,
+)

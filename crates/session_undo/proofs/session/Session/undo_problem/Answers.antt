@@ -10,4 +10,4 @@ returns-clause-posed c =
     let old = (session_at c.self.inside.scene c.self.inside.budget c.self.inside.limits c.self.inside.version) in
     let latest = latest-earlier old.earlier (c.if-not-has_earlier.ensures.yes refl) in
     rw (← c.self.view_is)
-    (undo-takes old (PosesScene old c.in_ok-scene_problem.field-0) (record { scene = latest.0; earlier = latest.1; undo = old.limits.undo }) Done old latest.2 (rw (← c.self.view_is) at c.in_ok-scene_problem.ensures.is))
+    (undo-takes old (PosesScene old c.in_ok-problem.field-0) (record { scene = latest.0; earlier = latest.1; undo = old.limits.undo }) Done old latest.2 c.in_ok-problem.ensures)
