@@ -8,5 +8,6 @@ pub mod RunEnds
 pub mod SharedTimes
 pub mod ShownTimes
 pub mod RequiredTimes
+pub mod SeenConflicts
 pub mod FirstMarks
 pub mod Trails

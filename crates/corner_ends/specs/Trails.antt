@@ -12,6 +12,7 @@ use Rattle.corner_laws.specs.Runs.{AreDualSwaps, AreRunSwaps}
 use Rattle.cert_core.specs.Paths.{Path}
 use Rattle.cert_core.specs.Stops.{IsStopOf}
 use Rattle.cert_core.specs.declared.stops.RunStop.{RunStop}
+use Rattle.cert_core.specs.declared.stops.RunStop.TheVariants.{Conflict, Unfit, Spent, OutOfMemory}
 use Rattle.corner.specs.Changes.{IsUnfitStop}
 use Rattle.corner.specs.Views.{CornerView, in_order, is_mark}
 use Rattle.corner_ends.specs.Runs.{FromHere}
@@ -77,6 +78,13 @@ abbrev pub IsTrailStop : Bool → CornerView → Trail → RunStop → Type 0
 IsTrailStop dual c trail stop = (first : List Mark) → IsTrailOf dual c.problem first trail c.marks
     → (budget : ℕ) → length trail.swaps < budget
     → IsStopOf dual c.problem c.problem.rows (FromHere first) budget stop
+
+-- the stop shows no conflict
+abbrev pub IsNoConflict : RunStop → Type 0
+IsNoConflict (Conflict by) = ⊥
+IsNoConflict (Unfit at) = Unit {0}
+IsNoConflict (Spent path) = Unit {0}
+IsNoConflict OutOfMemory = Unit {0}
 
 -- the run stops so where its exchanges are the budget's, and the corner is no end
 abbrev pub IsSpentStop : CornerView → Trail → RunStop → Type 0

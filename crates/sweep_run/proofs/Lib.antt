@@ -1,0 +1,10 @@
+pub mod Backs
+pub mod Places
+pub mod Shares
+pub mod Moves
+pub mod BackRates
+pub mod Crossings
+pub mod Soonest
+pub mod Turns
+pub mod SamePoint
+pub mod Better
