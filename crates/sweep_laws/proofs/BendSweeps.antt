@@ -2,6 +2,7 @@
 use Rattle.std.proofs.Common.{◌≡◌, ◌∙◌, ℕ, ◌*◌, ◌<◌, ◌≤◌, inl, inr, List, [], ◌∷◌, ℤ, pos, negsuc, ◌+ℤ◌, ◌*ℤ◌, ◌≤ℤ◌, ◌<ℤ◌, refl, ap, arith, All, mul-le-mul_right}
 use Rattle.std.proofs.lemmas.List.Elements.{All-from_recursion, recursion_from_All}
 use borrow.Author.Differences.{ints}
+use Rattle.frac_core.specs.declared.frac.TheConstants.{PART_BOUND}
 use Rattle.frac_core.specs.Fraction.{Fraction, IsKept, IsLowest}
 use Rattle.frac_core.proofs.Integers.{cancel_mul, diff-add, diff-mul, diff-neg, diff-pos, diff_eq, minus-one, neg-pos, on_1}
 use Rattle.problem_core.proofs.Best.Midpoints.{best-AreSame}
@@ -19,7 +20,7 @@ Value = ℕ × Fraction
 
 -- ---- values and ends
 
-all-values : (m n : ℕ) → m < 4398046511104 → n < 4398046511104 → AreAllValues bent (both m n)
+all-values : (m n : ℕ) → m < PART_BOUND → n < PART_BOUND → AreAllValues bent (both m n)
 all-values m n hm hn = record {
   attributes = refl;
   kept = All-from_recursion (λ (v : Value). IsKept v.1) (both m n) (whole_is_kept m hm, (whole_is_kept n hn, tt));
@@ -28,7 +29,7 @@ all-values m n hm hn = record {
 pub no-more-points : (m n : ℕ) → m ≤ n → (pos m *ℤ pos 1) ≤ℤ (pos n *ℤ pos 1)
 no-more-points m n h = omega (arith, ints, h)
 
-pub upwards : (m n : ℕ) → m < 4398046511104 → n < 4398046511104 → m ≤ n → IsUpwards (points m) (points n)
+pub upwards : (m n : ℕ) → m < PART_BOUND → n < PART_BOUND → m ≤ n → IsUpwards (points m) (points n)
 upwards m n hm hn h = record { first = (whole_is_kept m hm).lowest; last = (whole_is_kept n hn).lowest; rises = no-more-points m n h }
 
 count-product : (m d : ℕ) → pos m *ℤ pos d ≡ pos (m * d)
@@ -151,7 +152,7 @@ late-numbers : (rn : ℤ) (rd : ℕ) → 0 < rd → pos 150 *ℤ (pos 1 *ℤ (po
 late-numbers rn rd some e f = omega (arith, ints, some, e, f)
 
 -- the best values with k between 100 and 150, by any assignment that is best
-view-there : (k : ℕ) (hk : k < 4398046511104) → 100 ≤ k → k ≤ 150 → (from : Fraction) (low : List Value) (rates : Rates) → (best : IsBestAt bent 1 from low rates (points k)) → best.0.num 2 *ℤ pos 1 ≡ pos k *ℤ pos best.0.den
+view-there : (k : ℕ) (hk : k < PART_BOUND) → 100 ≤ k → k ≤ 150 → (from : Fraction) (low : List Value) (rates : Rates) → (best : IsBestAt bent 1 from low rates (points k)) → best.0.num 2 *ℤ pos 1 ≡ pos k *ℤ pos best.0.den
 unfolding as_wide_there
 view-there k hk lower upper from low rates best =
     (recursion_from_All (λ s. best.0.num s.attr *ℤ pos 1 ≡ (as_wide_there (points k) (omega arith)).num s.attr *ℤ pos best.0.den) bent.stays

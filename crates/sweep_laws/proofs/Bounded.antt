@@ -6,6 +6,7 @@ use Rattle.std.proofs.lemmas.List.Elements.{All-from_recursion, recursion_from_A
 use Rattle.std.proofs.lemmas.List.Kept.{AllPairs-cons}
 use Rattle.std.proofs.lemmas.Nat.Gcd.{dvd_antisymm}
 use borrow.Author.Differences.{ints}
+use Rattle.frac_core.specs.declared.frac.TheConstants.{PART_BOUND}
 use Rattle.frac_core.specs.Fraction.{Fraction, IsKept, IsLowest}
 use Rattle.problem_core.specs.declared.parts.RowName.TheVariants.{Held}
 use Rattle.problem_core.specs.declared.parts.Rel.TheVariants.{Eq, Le}
@@ -137,7 +138,7 @@ bounded-best w hw to =
     view-same w.num (y.num 1) (y.num 2) w.den y.den first (no-gap (pos 1 *ℤ (pos 1 *ℤ y.num 1 +ℤ (negsuc 0 *ℤ y.num 2 +ℤ pos 0)) -ℤ pos 20 *ℤ pos y.den) (rows.1.0 refl)) in
     All-from_recursion (λ s. (inset_there w hw).num s.attr *ℤ pos y.den ≡ y.num s.attr *ℤ pos w.den) bounded.stays (first, (second, tt)))
 
-all-values : (m n : ℕ) → m < 4398046511104 → n < 4398046511104 → AreAllValues bounded (both m n)
+all-values : (m n : ℕ) → m < PART_BOUND → n < PART_BOUND → AreAllValues bounded (both m n)
 all-values m n hm hn = record {
   attributes = refl;
   kept = All-from_recursion (λ (v : Value). IsKept v.1) (both m n) (whole_is_kept m hm, (whole_is_kept n hn, tt));

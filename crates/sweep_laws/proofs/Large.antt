@@ -2,6 +2,7 @@
 use Rattle.std.proofs.Common.{◌≡◌, ℕ, zero, suc, ◌<◌, ℤ, pos, negsuc, ◌*ℤ◌, refl, arith}
 use Rattle.std.proofs.Math.Nat.{one-dvd}
 use borrow.Author.Differences.{ints}
+use Rattle.frac_core.specs.declared.frac.TheConstants.{PART_BOUND}
 use Rattle.frac_core.specs.Fraction.{Fraction, IsKept}
 use Rattle.sweep_laws.specs.Instances.{SomeAreTooLarge}
 
@@ -9,10 +10,10 @@ use Rattle.sweep_laws.specs.Instances.{SomeAreTooLarge}
 abbrev part_of : ℕ → Fraction
 part_of n = record { num = pos 1; den = n }
 
-part-kept : (n : ℕ) → 0 < n → n < 4398046511104 → IsKept (part_of n)
+part-kept : (n : ℕ) → 0 < n → n < PART_BOUND → IsKept (part_of n)
 part-kept n some few = record { lowest = record { above = some; coprime = (one-dvd 1, one-dvd n, λ d p q. p) }; fits = record { num_fits = omega arith; den_fits = few } }
 
-no-such : (z : ℤ) (d : ℕ) → 0 < d → d < 4398046511104 → z *ℤ pos 4398046511104 ≡ pos 1 *ℤ pos d → ⊥
+no-such : (z : ℤ) (d : ℕ) → 0 < d → d < PART_BOUND → z *ℤ pos PART_BOUND ≡ pos 1 *ℤ pos d → ⊥
 no-such (pos zero) d some few e = omega (arith, ints, e, some)
 no-such (pos (suc n)) d some few e = omega (arith, ints, e, few)
 no-such (negsuc n) d some few e = omega (arith, ints, e)

@@ -6,6 +6,7 @@ use Rattle.std.proofs.lemmas.List.Elements.{All-from_recursion, recursion_from_A
 use Rattle.std.proofs.lemmas.List.Kept.{AllPairs-cons}
 use Rattle.std.proofs.lemmas.Nat.Gcd.{dvd_antisymm}
 use borrow.Author.Differences.{ints}
+use Rattle.frac_core.specs.declared.frac.TheConstants.{PART_BOUND}
 use Rattle.frac_core.specs.Fraction.{Fraction, IsKept, IsLowest}
 use Rattle.frac_core.proofs.Bools.{true-not-false}
 use Rattle.frac_core.proofs.Integers.{cancel_mul, diff-add, diff-mul, diff-neg, diff-pos, diff_eq, minus-one, neg-pos, on_1}
@@ -194,7 +195,7 @@ narrow-best w hw from =
     view-same w.num (y.num 1) (y.num 2) w.den y.den first (no-gap (pos 1 *ℤ (pos 1 *ℤ y.num 1 +ℤ (negsuc 0 *ℤ y.num 2 +ℤ pos 0)) -ℤ pos 20 *ℤ pos y.den) (rows.1.0 refl)) in
     All-from_recursion (λ s. (inset_there w hw).num s.attr *ℤ pos y.den ≡ y.num s.attr *ℤ pos w.den) narrow.stays (first, (second, tt)))
 
-all-values : (m n : ℕ) → m < 4398046511104 → n < 4398046511104 → AreAllValues narrow (both m n)
+all-values : (m n : ℕ) → m < PART_BOUND → n < PART_BOUND → AreAllValues narrow (both m n)
 all-values m n hm hn = record {
   attributes = refl;
   kept = All-from_recursion (λ (v : Value). IsKept v.1) (both m n) (whole_is_kept m hm, (whole_is_kept n hn, tt));
@@ -218,7 +219,7 @@ inset-each w is from = (
   All-from_recursion (λ (v : Value). (inset_there w is.above).num v.0 *ℤ pos v.1.den ≡ v.1.num *ℤ pos w.den) (moved_values (difference w (points 50)) (both 50 30) rising_rates) (gives-line w.num 50 w.den, (inset-line 30 50 w.den w.num refl, tt)),
 )
 
-inset-piece : (n k : ℕ) → n ≡ k + 20 → 50 ≤ n → n < 4398046511104 → IsRightPiece narrow 1 (points 50) (points n) (both 50 30) (both n k)
+inset-piece : (n k : ℕ) → n ≡ k + 20 → 50 ≤ n → n < PART_BOUND → IsRightPiece narrow 1 (points 50) (points n) (both 50 30) (both n k)
 inset-piece n k e h few = record {
   upwards = upwards 50 n (omega arith) few h;
   are_low = all-values 50 30 (omega arith) (omega arith);

@@ -1,5 +1,6 @@
 -- Sweeps of small problems: what is right there, and what isn't.
-use Rattle.std.specs.Prelude.{ℕ, ◌^◌, false, true, List, [], ◌∷◌, ℤ, pos, negsuc}
+use Rattle.std.specs.Prelude.{ℕ, false, true, List, [], ◌∷◌, ℤ, pos, negsuc}
+use Rattle.frac_core.specs.declared.frac.TheConstants.{PART_BOUND}
 use Rattle.frac_core.specs.Fraction.{Fraction}
 use Rattle.problem_core.specs.declared.parts.Mark.{Mark}
 use Rattle.problem_core.specs.declared.parts.Rel.{Rel}
@@ -144,9 +145,9 @@ pub record SomeBounded : Type 0 where
 
 -- a part that just doesn't fit, and one that does
 pub record SomeAreTooLarge : Type 0 where
-  pub large : IsTooLarge (record { num = pos 1; den = 2 ^ 42 })
+  pub large : IsTooLarge (record { num = pos 1; den = PART_BOUND })
   pub small : IsTooLarge (record { num = pos 1; den = 3 }) → ⊥
-  pub reducible : IsTooLarge (record { num = pos 2; den = 2 ^ 42 }) → ⊥
+  pub reducible : IsTooLarge (record { num = pos 2; den = PART_BOUND }) → ⊥
 
 abbrev pub mark : ℕ → Mark
 mark id = record { row = Held id; side = Under }

@@ -94,7 +94,7 @@ pub fn some_bounded()
     ensures { SomeBounded }
 {}
 
-/// A part of 2^42 is too large, and one that can be reduced isn't.
+/// A part as large as `PART_BOUND` is too large, and one that can be reduced isn't.
 pub fn some_are_too_large()
     ensures { SomeAreTooLarge }
 {}
