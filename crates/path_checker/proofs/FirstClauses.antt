@@ -1,5 +1,5 @@
--- The first three clauses of a path, from where its first marks are a corner.
-use Rattle.std.proofs.Common.{List, map, refl, sym, subst, inl, inr, Option}
+-- Whether a corner of a path comes twice, by its steps.
+use Rattle.std.proofs.Common.{List, Option, subst, sym}
 use Rattle.problem_core.specs.declared.parts.Side.{Side}
 use Rattle.problem_core.specs.Layout.{Problem}
 use Rattle.problem_core.specs.Kept.{IsWhole}
@@ -7,24 +7,15 @@ use Rattle.problem_core.specs.Changes.Begins.{AreExchanges}
 use Rattle.problem_core.specs.Corners.{ArePairwiseDifferent, IsCorner, Swap, corners}
 use Rattle.cert_core.specs.Paths.{Path}
 use Rattle.path_checker.specs.declared.spots.Step.{Step}
-use Rattle.path_checker.specs.declared.verdict.PathVerdict.TheVariants.{Yes, No}
-use Rattle.path_checker.specs.Sides.{ComesTwice}
-use Rattle.path_checker.specs.Tables.{AreSides, swap_of}
-use Rattle.path_checker.specs.Walking.Ways.{AreFollowed, IsExchangeVerdict}
+use Rattle.path_checker.specs.PathClauses.{AreApart}
+use Rattle.path_checker.specs.Sides.{AreSteps, ComesTwice}
+use Rattle.path_checker.specs.Tables.{AreSides}
 use Rattle.path_checker.proofs.MarkSides.SidesApart.{apart_by_sides}
 
-pub comes_again : (p : Problem) (path : Path) (sides : List (Option Side)) (steps : List Step) → IsWhole p → IsCorner p path.corner → AreSides p path.corner sides → AreFollowed p path steps → ComesTwice sides steps → IsExchangeVerdict p path (No 11)
-comes_again p path sides steps whole corner are followed twice unfit =
-    let exchanges : AreExchanges p path.corner (map (swap_of p) steps) = subst (AreExchanges p path.corner) (sym followed.swaps) followed.exchanges in
-    inr (inr (inl (
-      refl,
-      record { corner = corner; exchanges = followed.exchanges },
-      λ apart. (apart_by_sides p path.corner sides steps whole corner are followed.within exchanges).1 (subst (λ (ss : List Swap). ArePairwiseDifferent (corners path.corner ss)) (sym followed.swaps) apart) twice,
-    )))
+pub twice_then : (p : Problem) (path : Path) (sides : List (Option Side)) (steps : List Step) → IsWhole p → IsCorner p path.corner → AreSides p path.corner sides → AreSteps p path.swaps steps → AreExchanges p path.corner path.swaps → ComesTwice sides steps → AreApart path → ⊥
+twice_then p path sides steps whole corner are is exchanges twice apart =
+    (apart_by_sides p path.corner sides steps whole corner are is.within (subst (AreExchanges p path.corner) (sym is.swaps_are) exchanges)).1 (subst (λ (ss : List Swap). ArePairwiseDifferent (corners path.corner ss)) (sym is.swaps_are) apart) twice
 
-pub all_hold : (p : Problem) (path : Path) (sides : List (Option Side)) (steps : List Step) → IsWhole p → IsCorner p path.corner → AreSides p path.corner sides → AreFollowed p path steps → (ComesTwice sides steps → ⊥) → IsExchangeVerdict p path Yes
-all_hold p path sides steps whole corner are followed once =
-    let exchanges : AreExchanges p path.corner (map (swap_of p) steps) = subst (AreExchanges p path.corner) (sym followed.swaps) followed.exchanges in (
-      record { corner = corner; exchanges = followed.exchanges },
-      subst (λ (ss : List Swap). ArePairwiseDifferent (corners path.corner ss)) followed.swaps ((apart_by_sides p path.corner sides steps whole corner are followed.within exchanges).0 once),
-    )
+pub once_then : (p : Problem) (path : Path) (sides : List (Option Side)) (steps : List Step) → IsWhole p → IsCorner p path.corner → AreSides p path.corner sides → AreSteps p path.swaps steps → AreExchanges p path.corner path.swaps → (ComesTwice sides steps → ⊥) → AreApart path
+once_then p path sides steps whole corner are is exchanges once =
+    subst (λ (ss : List Swap). ArePairwiseDifferent (corners path.corner ss)) is.swaps_are ((apart_by_sides p path.corner sides steps whole corner are is.within (subst (AreExchanges p path.corner) (sym is.swaps_are) exchanges)).0 once)

@@ -8,5 +8,6 @@ pub mod Replacing
 pub mod MarkSides
 pub mod CornerNumbers
 pub mod Iffs
+pub mod Results
 pub mod FirstClauses
 pub mod Examples

@@ -3,7 +3,6 @@ pub mod Bringing
 pub mod GivingWay
 pub mod FirstCorner
 pub mod FirstLines
-pub mod WayLines
 pub mod WaySteps
 pub mod WayBegins
 pub mod Following

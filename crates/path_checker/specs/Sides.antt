@@ -6,7 +6,7 @@ use Rattle.problem_core.specs.declared.parts.Mark.{Mark}
 use Rattle.problem_core.specs.Layout.{Problem}
 use Rattle.problem_core.specs.Kept.{IsWhole}
 use Rattle.problem_core.specs.Changes.Begins.{AreExchanges}
-use Rattle.problem_core.specs.Corners.{ArePairwiseDifferent, IsCorner, corners}
+use Rattle.problem_core.specs.Corners.{ArePairwiseDifferent, IsCorner, Swap, corners}
 use Rattle.path_checker.specs.declared.spots.Step.{Step}
 use Rattle.path_checker.specs.Tables.{AreSides, line_count, swap_of}
 
@@ -22,6 +22,11 @@ walk sides (step ∷ steps) = moved_sides step sides ∷ walk (moved_sides step 
 -- both places of the exchange are those of lines, of which there are so many
 abbrev pub IsWithin : ℕ → Step → Type 0
 IsWithin count step = (step.enter.at < count) × (step.leave.at < count)
+
+-- these are the swaps by places
+pub record AreSteps (p : Problem) (swaps : List Swap) (steps : List Step) : Type 0 where
+  pub swaps_are : map (swap_of p) steps ≡ swaps
+  pub within : All (IsWithin (line_count p)) steps
 
 -- one of them comes again
 abbrev pub ComesTwice : List (Option Side) → List Step → Type 0

@@ -79,8 +79,8 @@ fn with_number(
     Ok(out)
 }
 
-/// Whether the marks make an exchange at the corner.
-pub(crate) fn is_exchange(lines: &[Option<Inside>], step: Step) -> bool
+//// Whether the marks make an exchange at the corner.
+pub fn is_exchange(lines: &[Option<Inside>], step: Step) -> bool
     requires enter { step.enter.at < length lines.now }
     requires leave { step.leave.at < length lines.now }
     requires sized { AreSized lines.now }

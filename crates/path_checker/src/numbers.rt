@@ -111,12 +111,15 @@ fn product(k: i128, by: i64) -> i128
     k * i128::from(by)
 }
 
-// The sum of two products.
+// The sum of two products. Most are of two zeros.
 fn both(k: i128, left: i64, m: i128, right: i64) -> i128
     requires left { IsSmallProduct k left }
     requires right { IsSmallProduct m right }
     ensures { result ≡ k *ℤ left +ℤ m *ℤ right }
 {
+    if left == 0 && right == 0 {
+        return 0;
+    }
     product(k, left) + product(m, right)
 }
 

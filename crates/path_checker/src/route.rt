@@ -51,7 +51,7 @@ fn has_double(alloc: Global, numbers: &[usize]) -> Result<bool, OutOfMemory>
 }
 
 /// Whether the same marks are inside twice along the exchanges.
-pub(crate) fn comes_twice(
+pub fn comes_twice(
     alloc: Global,
     first: &[Option<Side>],
     steps: &[Step],

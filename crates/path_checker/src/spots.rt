@@ -1,6 +1,12 @@
 // Marks and exchanges by the places of their lines.
 ghost use Rattle.std.specs.Prelude.{◌≡◌, ◌≢◌, ◌<◌, ◌⊎◌, length, All, IfSome, IfNone, IfOk};
+ghost use Rattle.std.specs.Prelude.{List};
 ghost use Rattle.std.specs.List.{HoldsAt};
+ghost use Rattle.problem_core.specs.Changes.Begins.{AreExchanges};
+ghost use Rattle.problem_core.specs.Corners.{IsCorner};
+ghost use Rattle.problem_core.specs.Layout.{Problem};
+ghost use Rattle.problem_core.specs.declared.parts.Mark.{Mark};
+ghost use Rattle.path_checker.specs.Sides.{AreSteps};
 ghost use Rattle.path_checker.specs.Tables.{IsSpotOf, names_of};
 
 use cert_core::Swap;
@@ -55,8 +61,8 @@ pub fn spot_of(names: &[RowName], mark: Mark) -> Option<Spot>
     Some(Spot { at, side })
 }
 
-/// An exchange by places, unless a mark is of no line.
-pub fn step_of(names: &[RowName], swap: Swap) -> Option<Step>
+// An exchange by places, unless a mark is of no line.
+fn step_of(names: &[RowName], swap: Swap) -> Option<Step>
     ensures enter { IfSome result (λ step. IsSpotOf names.now swap.enter step.enter) }
     ensures leave { IfSome result (λ step. IsSpotOf names.now swap.leave step.leave) }
     ensures none { IfNone result (All (λ n. n ≢ swap.enter.row) names.now
@@ -65,4 +71,25 @@ pub fn step_of(names: &[RowName], swap: Swap) -> Option<Step>
     let enter = spot_of(names, swap.enter)?;
     let leave = spot_of(names, swap.leave)?;
     Some(Step { enter, leave })
+}
+
+/// The exchanges by places, unless a mark is of no line.
+pub fn steps_of(
+    alloc: Global,
+    names: &[RowName],
+    swaps: &[Swap],
+) -> Result<Option<Vec<Step>>, OutOfMemory>
+    ensures some { IfOk result (λ steps. IfSome steps (λ s. (p : Problem) → names.now ≡ names_of p
+        → AreSteps p swaps.now s.items)) }
+    ensures none { IfOk result (λ steps. IfNone steps ((p : Problem) (at : List Mark) → names.now ≡ names_of p
+        → IsCorner p at → AreExchanges p at swaps.now → ⊥)) }
+{
+    let mut steps = Vec::new(alloc);
+    for swap in swaps {
+        let Some(step) = step_of(names, *swap) else {
+            return Ok(None);
+        };
+        steps.push(step)?;
+    }
+    Ok(Some(steps))
 }

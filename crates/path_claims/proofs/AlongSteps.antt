@@ -2,27 +2,26 @@
 use Rattle.std.proofs.Common.{◌≡◌, ◌≢◌, ◌∙◌, ◌↔◌, ◌+◌, ℕ, ◌<◌, ◌≤◌, ◌++◌, Bool, true, false, ◌&&◌, IsTrue, List, [], ◌∷◌, length, get_or, take, drop, refl, sym, ap, subst, subst₂, arith, Option, None, Some, length-append, take-append-drop, take_all}
 use Rattle.std.proofs.lemmas.List.{length-take-le}
 use Rattle.problem_core.specs.declared.parts.Mark.{Mark}
+use Rattle.problem_core.specs.declared.parts.RowName.TheVariants.{Held}
+use Rattle.problem_core.specs.declared.parts.Side.TheVariants.{Over, Under}
 use Rattle.problem_core.specs.declared.stops.Quantity.{Quantity}
 use Rattle.problem_core.specs.Layout.{Problem}
 use Rattle.problem_core.specs.Changes.Begins.{AreExchanges}
-use Rattle.problem_core.specs.Corners.{IsExchange, SameMarks, Swap, exchanged}
+use Rattle.problem_core.specs.Corners.{IsCorner, IsExchange, SameMarks, Swap, exchanged}
 use Rattle.problem_core.specs.Changes.Paths.{IsEndOf, IsSound, MaySwap, last_marks}
 use Rattle.corner_laws.proofs.Rays.{rays_after}
 use Rattle.cert_core.specs.Paths.{Path}
 use Rattle.path_checker.specs.declared.spots.Step.{Step}
-use Rattle.path_checker.specs.declared.way.WayStop.{WayStop}
-use Rattle.path_checker.specs.declared.way.WayStop.TheVariants.{Fails, NoRoom, OutOfMemory}
-use Rattle.path_checker.specs.PathClauses.{AreCalledFor, HoldToExchanges}
+use Rattle.path_checker.specs.PathClauses.{AreCalledFor}
 use Rattle.path_checker.specs.Room.{HasNoRoom}
 use Rattle.path_checker.specs.Route.{IsRoute, corner_after, over_marks}
-use Rattle.path_checker.specs.Sides.{IsWithin}
+use Rattle.path_checker.specs.Sides.{AreSteps, IsWithin}
 use Rattle.path_checker.specs.Tables.{IsThere, line_count, swap_of}
-use Rattle.path_checker.specs.Walking.Ways.{IsBegun, IsMarkStop}
-use Rattle.path_checker.proofs.Walking.Following.{last_after, not_whole, take_next, exchange_there}
+use Rattle.path_checker.specs.Walking.Ways.{IsBegun}
+use Rattle.path_checker.proofs.Walking.Following.{as_many, corner_there, exchanges_first, last_after, no_exchange_here, not_whole, step_at, take_next}
 use Rattle.path_checker.proofs.Iffs.{never_true, yes}
 use Rattle.path_checker.proofs.Places.{mark_is_there}
 use Rattle.path_checker.proofs.Walking.WaySteps.{IsCounting, begun_more, counts_there, some_apart}
-use Rattle.path_checker.proofs.MarkSides.Walks.{split_there}
 use Rattle.path_levels.specs.declared.outline.Outline.{Outline}
 use Rattle.path_claims.specs.declared.stations.Station.{Station}
 use Rattle.path_claims.specs.declared.stations.Table.{Table}
@@ -30,20 +29,13 @@ use Rattle.path_claims.specs.Journeys.{AreSoundAhead, IsOnRoute, LeadThere}
 use Rattle.path_claims.specs.Stations.{IsStation, IsStationBy, IsStuckAt, IsTableAt, IsUsableStation}
 use Rattle.path_claims.proofs.JourneySteps.{counting_at}
 use Rattle.path_claims.proofs.MarkOrders.{end_same, exchange_same, exchanges_same, last_same, may_same}
-use Rattle.problem_core.proofs.Marks.{same-back as same_back, last-more as last_more}
+use Rattle.problem_core.proofs.Marks.{exchanges-more as exchanges_more, same-back as same_back, last-more as last_more}
 use Rattle.corner_lines.proofs.LevelRows.SameLevels.{sound_same}
 
 -- ---- exchanges
 
-exchanges_first : (p : Problem) (at : List Mark) (a b : List Swap) → AreExchanges p at (a ++ b) → AreExchanges p at a
-exchanges_first p at [] b are = tt
-exchanges_first p at (t ∷ a) b are = (are.0, exchanges_first p (exchanged t at) a b are.1)
-
 pub first_exchanges : (p : Problem) (path : Path) (i : ℕ) → AreExchanges p path.corner path.swaps → AreExchanges p path.corner (take i path.swaps)
 first_exchanges p path i are = exchanges_first p path.corner (take i path.swaps) (drop i path.swaps) (subst (AreExchanges p path.corner) (sym (take-append-drop i path.swaps)) are)
-
-pub swap_there : (p : Problem) (path : Path) (i : ℕ) (d : Swap) → i < length path.swaps → AreExchanges p path.corner path.swaps → IsExchange p (last_marks path.corner (take i path.swaps)) (get_or path.swaps i d)
-swap_there p path i d less are = exchange_there p path.corner (take i path.swaps) (get_or path.swaps i d) (drop (i + 1) path.swaps) (subst (AreExchanges p path.corner) (split_there path.swaps i d less) are)
 
 -- the route's corner has the marks of the path's
 pub marks_same : (p : Problem) (path : Path) (brings made : List Swap) → LeadThere p path brings → AreExchanges p path.corner made → SameMarks (corner_after p (brings ++ made)) (last_marks path.corner made)
@@ -51,11 +43,14 @@ marks_same p path brings made lead are =
     subst (λ (ms : List Mark). SameMarks ms (last_marks path.corner made)) (sym (last_after (over_marks p) brings made))
     (last_same p (corner_after p brings) path.corner made lead.same (exchanges_same p path.corner (corner_after p brings) made (same_back (corner_after p brings) path.corner lead.same) lead.corner are) are)
 
-pub route_is : (p : Problem) (path : Path) (brings : List Swap) (i : ℕ) → LeadThere p path brings → i ≤ length path.swaps → AreExchanges p path.corner path.swaps → IsRoute p path (brings ++ take i path.swaps)
-route_is p path brings i lead less are =
+pub route_upto : (p : Problem) (path : Path) (brings : List Swap) (i : ℕ) → LeadThere p path brings → i ≤ length path.swaps → AreExchanges p path.corner (take i path.swaps) → IsRoute p path (brings ++ take i path.swaps)
+route_upto p path brings i lead less are =
     let long : length (take i path.swaps) ≡ i = length-take-le i path.swaps less in
     lead.goes_on (take i path.swaps) (ap (λ (k : ℕ). take k path.swaps) (sym long))
-    (exchanges_same p path.corner (corner_after p brings) (take i path.swaps) (same_back (corner_after p brings) path.corner lead.same) lead.corner (first_exchanges p path i are))
+    (exchanges_same p path.corner (corner_after p brings) (take i path.swaps) (same_back (corner_after p brings) path.corner lead.same) lead.corner are)
+
+pub route_is : (p : Problem) (path : Path) (brings : List Swap) (i : ℕ) → LeadThere p path brings → i ≤ length path.swaps → AreExchanges p path.corner path.swaps → IsRoute p path (brings ++ take i path.swaps)
+route_is p path brings i lead less are = route_upto p path brings i lead less (first_exchanges p path i are)
 
 -- ---- one corner more
 
@@ -88,10 +83,23 @@ both_are a b f g h =
 
 -- ---- as the code goes
 
--- so many swaps are made, and whether all held at each corner before, and each swap was called for
+-- a swap where there is none, and a step
+pub any_swap : Swap
+any_swap = let m : Mark = record { row = Held 0; side = Over } in record { enter = m; leave = m }
+
+abbrev pub any_step : Step
+any_step = record { enter = record { at = 0; side = Under }; leave = record { at = 0; side = Under } }
+
+pub step_there : (p : Problem) (path : Path) (steps : List Step) (i : ℕ) → AreSteps p path.swaps steps → i < length steps → (i < length path.swaps) × IsWithin (line_count p) (get_or steps i any_step) × (swap_of p (get_or steps i any_step) ≡ get_or path.swaps i any_swap)
+step_there p path steps i are less =
+    let at = step_at p path.swaps steps i any_step any_swap are less in
+    (omega (arith, less, as_many p path.swaps steps are), at.0, at.1)
+
+-- so many swaps are made, each an exchange, and whether all held at each corner before, and each swap was called for
 pub record IsWalkedTo (p : Problem) (path : Path) (outline : Outline) (i : ℕ) (station : Station) (sound called : Bool) : Type 0 where
   pub route : IsOnRoute p path outline (take i path.swaps) station
   pub usable : IsUsableStation outline station
+  pub exchanges : AreExchanges p path.corner (take i path.swaps)
   pub count : station.count ≤ length path.corner + i
   pub sound_is : IsTrue sound ↔ AreSoundAhead path.dual p path.corner (take i path.swaps)
   pub called_is : IsTrue called ↔ AreCalledFor path.dual p path.corner (take i path.swaps)
@@ -127,25 +135,37 @@ route_more p path outline i d station next table step is less swap_is within tab
     begun_last [] b s o some = begun_more b s o some
     begun_last (t ∷ a) b s o some = some
 
-pub walked_more : (p : Problem) (path : Path) (outline : Outline) (i : ℕ) (d : Swap) (station next : Station) (table : Table) (step : Step) (sound called now call : Bool) → IsWalkedTo p path outline i station sound called → HoldToExchanges p path → i < length path.swaps
-    → swap_of p step ≡ get_or path.swaps i d → IsWithin (line_count p) step → ((at : List Mark) → IsStation p at outline station → IsTableAt p at outline table) → ((at : List Mark) → IsTableAt p at outline table → IsTrue now ↔ IsSound path.dual p at)
+-- an exchange at the route's corner is one at the path's, and the other way round
+there_same : (p : Problem) (path : Path) (outline : Outline) (i : ℕ) (station : Station) (s : Swap) → (is : IsOnRoute p path outline (take i path.swaps) station) → IsCorner p path.corner → AreExchanges p path.corner (take i path.swaps)
+    → IsExchange p (corner_after p (is.brings ++ take i path.swaps)) s ↔ IsExchange p (last_marks path.corner (take i path.swaps)) s
+there_same p path outline i station s is corner are =
+    let at : List Mark = corner_after p (is.brings ++ take i path.swaps) in
+    let c : List Mark = last_marks path.corner (take i path.swaps) in
+    let same : SameMarks at c = marks_same p path is.brings (take i path.swaps) is.lead are in (
+      exchange_same p at c s same (corner_there p path.corner (take i path.swaps) corner are),
+      exchange_same p c at s (same_back at c same) is.there.corner,
+    )
+
+pub walked_more : (p : Problem) (path : Path) (outline : Outline) (i : ℕ) (d : Swap) (station next : Station) (table : Table) (step : Step) (sound called now call : Bool) → IsWalkedTo p path outline i station sound called → IsCorner p path.corner → i < length path.swaps
+    → swap_of p step ≡ get_or path.swaps i d → IsWithin (line_count p) step → ((at : List Mark) → IsStation p at outline station → IsTableAt p at outline table) → ((at : List Mark) → IsTableAt p at outline table → IsExchange p at (swap_of p step)) → ((at : List Mark) → IsTableAt p at outline table → IsTrue now ↔ IsSound path.dual p at)
     → ((at : List Mark) → IsTableAt p at outline table → IsExchange p at (swap_of p step) → IsTrue call ↔ ((IsEndOf path.dual p at → ⊥) × MaySwap path.dual p at (swap_of p step))) → IsUsableStation outline next → next.table ≡ table → next.step ≡ Some step → next.count ≡ station.count + 1
     → IsWalkedTo p path outline (i + 1) next (sound && now) (called && call)
-walked_more p path outline i d station next table step sound called now call is holds less swap_is within made says calls usable same_table same_step count_is =
+walked_more p path outline i d station next table step sound called now call is corner less swap_is within made makes says calls usable same_table same_step count_is =
     let s : Swap = swap_of p step in
     let more : take (i + 1) path.swaps ≡ take i path.swaps ++ s ∷ [] = take_next path i d s less swap_is in
     let at : List Mark = corner_after p (is.route.brings ++ take i path.swaps) in
     let c : List Mark = last_marks path.corner (take i path.swaps) in
-    let same : SameMarks at c = marks_same p path is.route.brings (take i path.swaps) is.route.lead (first_exchanges p path i holds.exchanges) in
+    let same : SameMarks at c = marks_same p path is.route.brings (take i path.swaps) is.route.lead is.exchanges in
     let back : SameMarks c at = same_back at c same in
-    let ex_there : IsExchange p c s = subst (IsExchange p c) (sym swap_is) (swap_there p path i d less holds.exchanges) in
-    let ex : IsExchange p at s = exchange_same p c at s back is.route.there.corner ex_there in
     let table_is : IsTableAt p at outline table = made at is.route.station_is in
+    let ex : IsExchange p at s = makes at table_is in
+    let ex_there : IsExchange p c s = (there_same p path outline i station s is.route corner is.exchanges).0 ex in
     let now_is = says at table_is in
     let call_is = calls at table_is ex in
     record {
       route = route_more p path outline i d station next table step is.route less swap_is within table_is ex same_table same_step count_is;
       usable = usable;
+      exchanges = subst (AreExchanges p path.corner) (sym more) (exchanges_more p path.corner (take i path.swaps) s is.exchanges ex_there);
       count = omega (arith, is.count, count_is);
       sound_is = subst (λ (ss : List Swap). IsTrue (sound && now) ↔ AreSoundAhead path.dual p path.corner ss) (sym more)
           (both_are sound now is.sound_is (λ t. sound_same path.dual p at c same (now_is.0 t), λ h. now_is.1 (sound_same path.dual p c at back h)) (ahead_more path.dual p path.corner (take i path.swaps) s));
@@ -157,7 +177,7 @@ walked_more p path outline i d station next table step sound called now call is 
 
 -- ---- where it stops
 
-pub no_room_on : (p : Problem) (path : Path) (outline : Outline) (i n : ℕ) (station : Station) (unfit : Option Quantity) → (is : IsOnRoute p path outline (take i path.swaps) station) → AreExchanges p path.corner path.swaps → i < length path.swaps → n ≡ station.count
+pub no_room_on : (p : Problem) (path : Path) (outline : Outline) (i n : ℕ) (station : Station) (unfit : Option Quantity) → (is : IsOnRoute p path outline (take i path.swaps) station) → AreExchanges p path.corner (take i path.swaps) → i < length path.swaps → n ≡ station.count
     → IsStuckAt p (corner_after p (is.brings ++ take i path.swaps)) station.step → HasNoRoom p path unfit n
 no_room_on p path outline i n station unfit is are less same stuck =
     let done : List Swap = is.brings ++ take i path.swaps in
@@ -166,7 +186,7 @@ no_room_on p path outline i n station unfit is are less same stuck =
     record {
       done = done;
       count = is.count ∙ sym same;
-      route = route_is p path is.brings i is.lead (omega (arith, less)) are;
+      route = route_upto p path is.brings i is.lead (omega (arith, less)) are;
       quantity = counting_is.quantity;
       counts = counts_there p path unfit done counting_is.quantity (not_whole p path is.brings (take i path.swaps) is.lead.new (omega (arith, long, less))) counting_is.counts;
       does_not_fit = counting_is.unfit;
@@ -187,11 +207,18 @@ no_room_end p path outline n station is are same stuck =
       does_not_fit = counting_is.unfit;
     }
 
-pub walk_stuck : (p : Problem) (path : Path) (stop : WayStop) (n : ℕ) → (stop ≢ OutOfMemory → (stop ≡ NoRoom n) × ((unfit : Option Quantity) → HasNoRoom p path unfit n)) → IsMarkStop p path stop
-walk_stuck p path Fails n h = let e : Fails ≡ NoRoom n = (h (λ o. cc)).0 in absurd (cc)
-walk_stuck p path (NoRoom k) n h =
-    let there = h (λ o. cc) in
-    let e : NoRoom k ≡ NoRoom n = there.0 in
-    let same : n ≡ k = cc in
-    λ unfit. subst (HasNoRoom p path unfit) same (there.1 unfit)
-walk_stuck p path OutOfMemory n h = tt
+pub no_swap : (p : Problem) (path : Path) (outline : Outline) (i : ℕ) (d : Swap) (station : Station) (table : Table) (step : Step) (sound called : Bool) → IsWalkedTo p path outline i station sound called → IsCorner p path.corner → i < length path.swaps → swap_of p step ≡ get_or path.swaps i d
+    → ((at : List Mark) → IsStation p at outline station → IsTableAt p at outline table) → ((at : List Mark) → IsTableAt p at outline table → IsExchange p at (swap_of p step) → ⊥) → AreExchanges p path.corner path.swaps → ⊥
+no_swap p path outline i d station table step sound called is corner less swap_is made none =
+    let at : List Mark = corner_after p (is.route.brings ++ take i path.swaps) in
+    no_exchange_here p path i d less (λ ex. none at (made at is.route.station_is) ((there_same p path outline i station (swap_of p step) is.route corner is.exchanges).1 (subst (IsExchange p (last_marks path.corner (take i path.swaps))) (sym swap_is) ex)))
+
+pub walk_begins : (p : Problem) (path : Path) (outline : Outline) (station : Station) → IsOnRoute p path outline [] station → IsUsableStation outline station → station.count ≤ length path.corner → IsWalkedTo p path outline 0 station true true
+walk_begins p path outline station route usable count = record {
+  route = route;
+  usable = usable;
+  exchanges = tt;
+  count = omega (arith, count);
+  sound_is = (λ t. tt, λ h. yes);
+  called_is = (λ t. tt, λ h. yes);
+}

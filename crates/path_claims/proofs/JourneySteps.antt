@@ -1,7 +1,7 @@
 -- The route to a path's first corner with levels, mark by mark.
-use Rattle.std.proofs.Common.{◌≡◌, ◌≢◌, ◌∙◌, ◌+◌, ℕ, ◌<◌, ◌++◌, List, [], ◌∷◌, length, get_or, take, drop, refl, sym, ap, subst, subst₂, arith, inl, inr, Option, None, Some}
+use Rattle.std.proofs.Common.{◌≡◌, ◌≢◌, ◌∙◌, ◌+◌, ℕ, ◌<◌, ◌++◌, List, [], ◌∷◌, length, get_or, take, drop, refl, sym, ap, subst, subst₂, arith, inl, inr, Option, None, Some, AllPairs, ◌≤◌, take_all}
 use Rattle.std.specs.Prelude.{slice_index_or}
-use Rattle.std.proofs.lemmas.List.{take_more, append-nil as with_none}
+use Rattle.std.proofs.lemmas.List.{drop_all, take_more, append-nil as with_none}
 use Rattle.problem_core.specs.declared.parts.Mark.{Mark}
 use Rattle.problem_core.specs.declared.parts.RowName.{RowName}
 use Rattle.problem_core.specs.declared.stops.Quantity.TheVariants.{Plain, Terms, Rows}
@@ -25,7 +25,7 @@ use Rattle.path_checker.proofs.Places.{mark_is_there}
 use Rattle.path_checker.proofs.Walking.WayBegins.{mark_in, spot_is}
 use Rattle.path_checker.proofs.Walking.WaySteps.{IsCounting, already_inside, inside_by_sides, no_room_there, one_mark_more, some_apart}
 use Rattle.path_checker.proofs.MarkSides.Walks.{first_of_rest}
-use Rattle.path_checker.proofs.MarkSides.Pigeons.{all_of_them}
+use Rattle.path_checker.proofs.MarkSides.Pigeons.{corner_of_all}
 use Rattle.path_levels.specs.declared.outline.Outline.{Outline}
 use Rattle.path_claims.specs.declared.journey.PathCase.{PathCase}
 use Rattle.path_claims.specs.declared.journey.Journey.{Journey}
@@ -151,13 +151,19 @@ journey_more p path outline items i d journey same within is =
 
 -- ---- all marks are inside
 
-pub journey_ends : (p : Problem) (path : Path) (outline : Outline) (journey : Journey) → IsCorner p path.corner → IsJourneyAt p path outline path.corner [] journey → IsOnRoute p path outline [] journey.station
-journey_ends p path outline journey corner is =
+pub journey_done : (p : Problem) (path : Path) (outline : Outline) (i : ℕ) (journey : Journey) → length path.corner ≤ i → IsJourneyAt p path outline (take i path.corner) (drop i path.corner) journey → IsJourneyAt p path outline path.corner [] journey
+journey_done p path outline i journey done is = subst₂ (λ (a b : List Mark). IsJourneyAt p path outline a b journey) (take_all i path.corner done) (drop_all i path.corner done) is
+
+pub corner_then : (p : Problem) (path : Path) (outline : Outline) (journey : Journey) → length path.corner ≡ length p.rows → AllPairs (λ m n. place m ≢ place n) path.corner → IsJourneyAt p path outline path.corner [] journey → IsCorner p path.corner
+corner_then p path outline journey rows apart is = (corner_of_all p (corner_after p is.done) path.corner is.there.corner is.inside rows apart).0
+
+pub journey_ends : (p : Problem) (path : Path) (outline : Outline) (journey : Journey) → length path.corner ≡ length p.rows → AllPairs (λ m n. place m ≢ place n) path.corner → IsJourneyAt p path outline path.corner [] journey → IsOnRoute p path outline [] journey.station
+journey_ends p path outline journey rows apart is =
     let at : List Mark = corner_after p is.done in
     let none : is.done ++ [] ≡ is.done = with_none is.done in
     record {
       brings = is.done;
-      lead = record { goes_on = λ more first exchanges. is.goes_on more (first, exchanges); new = is.new; corner = is.there.corner; same = (all_of_them path.corner at corner.apart is.inside (corner.count ∙ sym is.there.corner.count), is.inside) };
+      lead = record { goes_on = λ more first exchanges. is.goes_on more (first, exchanges); new = is.new; corner = is.there.corner; same = (corner_of_all p at path.corner is.there.corner is.inside rows apart).1 };
       there = subst (λ (ss : List Swap). IsThere p (corner_after p ss)) (sym none) is.there;
       station_is = subst (λ (ss : List Swap). IsStation p (corner_after p ss) outline journey.station) (sym none) is.kept;
       count = ap (λ (ss : List Swap). length ss) none ∙ is.count;

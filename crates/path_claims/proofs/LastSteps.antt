@@ -7,20 +7,21 @@ use Rattle.problem_core.specs.declared.stops.Quantity.{Quantity}
 use Rattle.problem_core.specs.Layout.{Problem, Row}
 use Rattle.problem_core.specs.Kept.{IsWhole}
 use Rattle.problem_core.specs.Changes.Begins.{AreExchanges}
-use Rattle.problem_core.specs.Corners.{IsExchange, SameMarks, Swap, exchanged}
+use Rattle.problem_core.specs.Corners.{IsCorner, IsExchange, SameMarks, Swap, exchanged}
 use Rattle.problem_core.specs.Changes.Paths.{IsSound, last_marks}
 use Rattle.cert_core.specs.Paths.{Path}
 use Rattle.cert_core.specs.Stops.{IsBefore}
 use Rattle.path_checker.specs.declared.spots.Step.{Step}
 use Rattle.path_checker.specs.declared.table.Inside.{Inside}
 use Rattle.path_checker.specs.declared.verdict.PathVerdict.{PathVerdict}
+use Rattle.path_checker.specs.declared.verdict.PathVerdict.TheVariants.{No}
 use Rattle.path_checker.specs.declared.way.WayStop.{WayStop}
 use Rattle.path_checker.specs.declared.way.WayStop.TheVariants.{Fails, NoRoom as NoRoomAfter, OutOfMemory}
-use Rattle.path_checker.specs.PathClauses.{AreSound, AreSoundBefore, IsPathVerdict, row_of_terms}
+use Rattle.path_checker.specs.PathClauses.{AreApart, AreSound, AreSoundBefore, IsPathVerdict, row_of_terms}
 use Rattle.path_checker.specs.Room.{CountsAtEnd, HasNoRoom, IsPartOf}
 use Rattle.path_checker.specs.Route.{IsRoute, IsWholeRoute, corner_after, over_marks}
 use Rattle.path_checker.specs.Tables.{AreJudged, name_at, swap_of}
-use Rattle.path_checker.specs.Walking.Ways.{IsBegun, IsEnded, IsMarkStop}
+use Rattle.path_checker.specs.Walking.Ways.{IsBegun, IsEnded, IsMarkStop, IsSwapStop}
 use Rattle.path_checker.proofs.Walking.FirstLines.{count_lines, row_name, stay_name}
 use Rattle.path_checker.proofs.Walking.WayBegins.{any_row, any_stay}
 use Rattle.path_claims.specs.declared.along.Walked.{Walked}
@@ -171,10 +172,18 @@ at_start_marks p path outline station is none =
 
 -- ---- where the route ends early
 
+pub stopped_along : (p : Problem) (path : Path) (unfit : Option Quantity) (stop : WayStop) (v : PathVerdict) → IsCorner p path.corner → IsSwapStop p path stop → IsEnded stop 10 v → IsPathVerdict p path unfit v
+stopped_along p path unfit Fails v corner stops ended = subst (IsPathVerdict p path unfit) (sym ended) (inr (inl (refl, corner, stops)))
+stopped_along p path unfit (NoRoomAfter n) v corner stops ended = subst (IsPathVerdict p path unfit) (sym ended) (stops unfit)
+stopped_along p path unfit OutOfMemory v corner stops ended = absurd ended
+
 pub stopped : (p : Problem) (path : Path) (unfit : Option Quantity) (stop : WayStop) (v : PathVerdict) → IsMarkStop p path stop → IsEnded stop 9 v → IsPathVerdict p path unfit v
 stopped p path unfit Fails v stops ended = subst (IsPathVerdict p path unfit) (sym ended) (inl (refl, stops))
 stopped p path unfit (NoRoomAfter n) v stops ended = subst (IsPathVerdict p path unfit) (sym ended) (stops unfit)
 stopped p path unfit OutOfMemory v stops ended = absurd ended
+
+pub comes_again : (p : Problem) (path : Path) (unfit : Option Quantity) → IsCorner p path.corner → AreExchanges p path.corner path.swaps → (AreApart path → ⊥) → IsPathVerdict p path unfit (No 11)
+comes_again p path unfit corner exchanges twice = inr (inr (inl (refl, record { corner = corner; exchanges = exchanges }, twice)))
 
 pub no_room_then : (p : Problem) (path : Path) (stop : WayStop) (n : ℕ) (v : PathVerdict) → (stop ≢ OutOfMemory → (stop ≡ NoRoomAfter n) × HasNoRoom p path None n) → IsEnded stop 9 v → IsPathVerdict p path None v
 no_room_then p path Fails n v h ended = let e : Fails ≡ NoRoomAfter n = (h (λ o. cc)).0 in absurd (cc)
@@ -193,13 +202,13 @@ pub found_after : (case : PathCase) (walked : Walked) (step : Step) (named : Qua
 found_after case walked step named last sound fit is_case is e same_outline same_lines same_levels same_step says fits =
     let p : Problem = case.p.now in
     let path : Path = case.path.now in
-    let exchanges = is_case.holds.0.exchanges in
+    let exchanges = is.holds.0.exchanges in
     let at : List Mark = corner_after p (is.arrived.brings ++ path.swaps) in
     let comes : ComesBy p at case.outline.now walked.station.table step = last_comes p at case.outline.now walked.station.table walked.station.step step e is.arrived.station_is in
     let after : IsLastAfter p comes.before last = last_is p at case.outline.now walked.station.table step last comes same_outline same_lines same_levels same_step in
     let there : marks_after p last comes.before ≡ at = last_marks_are p at case.outline.now walked.station.table step last comes same_step in
     record {
-      apart = is_case.holds;
+      apart = is.holds;
       sound_is = sound_by_last path.dual p path.corner at path.swaps (row_of_terms (Some named)) walked.is_sound sound (ended_same p path case.outline.now walked.station is.arrived exchanges) is.sound
           (subst (λ (ms : List Mark). IsTrue sound ↔ IsSoundFrom path.dual p ms (unjudged_from path.dual path.swaps (row_of_terms (Some named)))) there (says comes.before after));
       called_is = is.called;
@@ -211,14 +220,14 @@ pub found_there : (case : PathCase) (walked : Walked) (table : Table) (sound : B
 found_there case walked table sound count is_case is made says =
     let p : Problem = case.p.now in
     let path : Path = case.path.now in
-    let exchanges = is_case.holds.0.exchanges in
+    let exchanges = is.holds.0.exchanges in
     let at : List Mark = corner_after p (is.arrived.brings ++ path.swaps) in
     record {
-      apart = is_case.holds;
+      apart = is.holds;
       sound_is = sound_by_all path.dual p path.corner at path.swaps walked.is_sound sound (ended_same p path case.outline.now walked.station is.arrived exchanges) is.sound (says at (made at is.arrived.station_is));
       called_is = is.called;
       fit_is = tt;
     }
 
 pub no_room_there : (case : PathCase) (walked : Walked) → IsPathCase case → (is : IsWalked case walked) → ((at : List Mark) → IsStation case.p.now at case.outline.now walked.station → IsStuckAt case.p.now at walked.station.step) → HasNoRoom case.p.now case.path.now None walked.station.count
-no_room_there case walked is_case is stuck = no_room_end case.p.now case.path.now case.outline.now walked.station.count walked.station is.arrived is_case.holds.0.exchanges refl (stuck _ is.arrived.station_is)
+no_room_there case walked is_case is stuck = no_room_end case.p.now case.path.now case.outline.now walked.station.count walked.station is.arrived is.holds.0.exchanges refl (stuck _ is.arrived.station_is)

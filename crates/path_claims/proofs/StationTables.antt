@@ -1,5 +1,5 @@
 -- The lines and levels of a corner of the route, from those of the corner before.
-use Rattle.std.proofs.Common.{◌≡◌, ℕ, List, [], length, sym, subst, Option, Some}
+use Rattle.std.proofs.Common.{◌≡◌, ℕ, List, length, sym, subst, Option, Some}
 use Rattle.problem_core.specs.declared.parts.Mark.{Mark}
 use Rattle.problem_core.specs.declared.parts.Level.{Level}
 use Rattle.problem_core.specs.declared.stops.What.TheVariants.{Level as LevelOf}

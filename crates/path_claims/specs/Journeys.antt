@@ -1,5 +1,5 @@
 -- The checker's route with lines and levels: to a path's first corner and along its swaps.
-use Rattle.std.specs.Prelude.{◌≡◌, Bool, List, [], ◌∷◌, ◌++◌, length, take}
+use Rattle.std.specs.Prelude.{◌≡◌, ◌≢◌, Bool, List, [], ◌∷◌, ◌++◌, AllPairs, length, take}
 use Rattle.problem_core.specs.declared.parts.Mark.{Mark}
 use Rattle.problem_core.specs.Layout.{Problem}
 use Rattle.problem_core.specs.Changes.Begins.{AreExchanges}
@@ -10,7 +10,6 @@ use Rattle.path_checker.specs.declared.spots.Spot.{Spot}
 use Rattle.path_checker.specs.declared.spots.Step.{Step}
 use Rattle.path_checker.specs.declared.way.WayStop.{WayStop}
 use Rattle.path_checker.specs.declared.way.WayStop.TheVariants.{Fails, NoRoom, OutOfMemory}
-use Rattle.path_checker.specs.PathClauses.{HoldToApart}
 use Rattle.path_checker.specs.Route.{IsRoute, corner_after, over_marks}
 use Rattle.path_checker.specs.Tables.{AreSides, IsThere, line_count, mark_of, names_of, swap_of}
 use Rattle.path_checker.specs.Walking.Ways.{AreNew, IsBegun, IsBroughtBy, IsBroughtByNone, IsMarkStop}
@@ -22,13 +21,14 @@ use Rattle.path_claims.specs.declared.stations.Station.{Station}
 use Rattle.path_levels.specs.Outlines.{IsOutline, IsSizedOutline}
 use Rattle.path_claims.specs.Stations.{IsStation, IsStuckAt, IsUsableStation}
 
--- a path of whose clauses the first three hold, and what is read off it
+-- a path of so many different marks as there are rows, and what is read off it
 pub record IsPathCase (case : PathCase) : Type 0 where
   pub outline_is : IsOutline case.p.now case.outline.now
   pub outline_sized : IsSizedOutline case.outline.now
   pub names_are : case.names.now ≡ names_of case.p.now
   pub wanted_are : AreSides case.p.now case.path.now.corner case.wanted.now
-  pub holds : HoldToApart case.p.now case.path.now
+  pub rows : length case.path.now.corner ≡ length case.p.now.rows
+  pub apart : AllPairs (λ m n. place m ≢ place n) case.path.now.corner
   pub count : IsShortPath case.path.now
 
 -- ---- one mark is brought in

@@ -1,9 +1,10 @@
--- What is found on the route of a path of whose clauses the first three hold, and the verdict by it.
-use Rattle.std.specs.Prelude.{◌↔◌, ℕ, Bool, true, false, IsTrue, List, [], ◌∷◌, Option, None, Some}
+-- What is found on the route of a path, and the verdict by it.
+use Rattle.std.specs.Prelude.{◌↔◌, ◌≤◌, ℕ, Bool, true, false, IsTrue, List, [], ◌∷◌, length, Option}
+use Rattle.std.specs.Prelude.{None, Some}
 use Rattle.problem_core.specs.declared.parts.Mark.{Mark}
 use Rattle.problem_core.specs.declared.stops.Quantity.{Quantity}
 use Rattle.problem_core.specs.Layout.{Problem}
-use Rattle.problem_core.specs.Corners.{Swap}
+use Rattle.problem_core.specs.Corners.{IsCorner, Swap}
 use Rattle.problem_core.specs.Changes.Paths.{IsSound}
 use Rattle.cert_core.specs.Paths.{Path}
 use Rattle.cert_core.specs.Stops.{AreNonnegativeBefore}
@@ -11,13 +12,22 @@ use Rattle.path_checker.specs.PathClauses.{EndsInUnfit, HoldToApart, IsCalledFor
 use Rattle.path_checker.specs.Room.{HasNoRoom}
 use Rattle.path_claims.specs.declared.along.Walked.{Walked}
 use Rattle.path_claims.specs.declared.journey.PathCase.{PathCase}
+use Rattle.path_claims.specs.declared.stations.Station.{Station}
 use Rattle.path_claims.specs.declared.last.Fit.{Fit}
 use Rattle.path_claims.specs.declared.last.Fit.TheVariants.{Fits, Unfit, NoRoom}
 use Rattle.path_claims.specs.Journeys.{AreSoundAhead, IsOnRoute}
 use Rattle.path_claims.specs.Stations.{IsUsableStation}
 
--- the last corner is come to, and all is known of the corners before it
+-- the path's first corner is one, and is come to
+pub record IsAtFirst (case : PathCase) (station : Station) : Type 0 where
+  pub corner : IsCorner case.p.now case.path.now.corner
+  pub usable : IsUsableStation case.outline.now station
+  pub count : station.count ≤ length case.path.now.corner
+  pub arrived : IsOnRoute case.p.now case.path.now case.outline.now [] station
+
+-- of the path's clauses the first three hold, the last corner is come to, and all is known of those before it
 pub record IsWalked (case : PathCase) (walked : Walked) : Type 0 where
+  pub holds : HoldToApart case.p.now case.path.now
   pub usable : IsUsableStation case.outline.now walked.station
   pub arrived : IsOnRoute case.p.now case.path.now case.outline.now case.path.now.swaps walked.station
   pub sound : IsTrue walked.is_sound

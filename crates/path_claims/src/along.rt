@@ -1,18 +1,19 @@
 // The checker's route along the swaps of a path, and what is judged at the corners before the last.
 ghost use Rattle.std.specs.Prelude.{◌↔◌, ◌≤◌, [], List, IfOk, IfErr, IsTrue, length};
-ghost use Rattle.problem_core.specs.Corners.{IsExchange};
+ghost use Rattle.problem_core.specs.Changes.Begins.{AreExchanges};
+ghost use Rattle.problem_core.specs.Corners.{IsCorner, IsExchange};
 ghost use Rattle.problem_core.specs.Changes.Paths.{IsSound};
 ghost use Rattle.problem_core.specs.declared.parts.Mark.{Mark};
 ghost use Rattle.path_checker.specs.PathClauses.{IsCalledFor};
-ghost use Rattle.path_checker.specs.Sides.{IsWithin};
+ghost use Rattle.path_checker.specs.Sides.{AreSteps, IsWithin};
 ghost use Rattle.path_checker.specs.Tables.{line_count, swap_of};
-ghost use Rattle.path_checker.specs.Walking.Ways.{IsMarkStop};
+ghost use Rattle.path_checker.specs.Walking.Ways.{IsSwapStop};
 ghost use Rattle.path_claims.specs.Journeys.{AreSoundAhead, IsCalledThere, IsOnRoute, IsPathCase};
 ghost use Rattle.path_claims.specs.Stations.{IsSizedTable, IsTableAt, IsUsableStation};
 
 use crate::journey::PathCase;
 use crate::stations::{Station, Table, station_after, table_now};
-use path_checker::{Step, WayStop, step_of, told};
+use path_checker::{Step, WayStop, is_exchange, told};
 use path_levels::{is_end, is_sound, may_swap};
 use std::alloc::Global;
 
@@ -51,33 +52,42 @@ fn is_called_for(case: PathCase<'_>, table: &Table, step: Step) -> bool
     !is_last && may
 }
 
-/// Along the swaps from the path's first corner to its last, of which the table is not made.
-pub fn walk(alloc: Global, case: PathCase<'_>, station: Station) -> Result<Walked, WayStop>
+/// Along the swaps, by places, from the path's first corner to its last, of which the table is not made.
+pub fn walk(
+    alloc: Global,
+    case: PathCase<'_>,
+    steps: &[Step],
+    station: Station,
+) -> Result<Walked, WayStop>
     requires case { IsPathCase case }
+    requires corner { IsCorner case.p.now case.path.now.corner }
+    requires steps { AreSteps case.p.now case.path.now.swaps steps.now }
     requires usable { IsUsableStation case.outline.now station }
     requires count { station.count ≤ length case.path.now.corner }
     requires arrived { IsOnRoute case.p.now case.path.now case.outline.now [] station }
     ensures usable { IfOk result (λ walked. IsUsableStation case.entry.outline.now walked.station) }
+    ensures exchanges { IfOk result
+        (λ _. AreExchanges case.entry.p.now case.entry.path.now.corner case.entry.path.now.swaps) }
     ensures arrived { IfOk result (λ walked. IsOnRoute case.entry.p.now case.entry.path.now
         case.entry.outline.now case.entry.path.now.swaps walked.station) }
     ensures sound { IfOk result (λ walked. IsTrue walked.is_sound ↔ AreSoundAhead case.entry.path.now.dual
         case.entry.p.now case.entry.path.now.corner case.entry.path.now.swaps) }
     ensures called { IfOk result (λ walked. IsTrue walked.is_called_for
         ↔ IsCalledFor case.entry.p.now case.entry.path.now) }
-    ensures stop { IfErr result (IsMarkStop case.entry.p.now case.entry.path.now) }
+    ensures stop { IfErr result (IsSwapStop case.entry.p.now case.entry.path.now) }
 {
     let mut station = station;
     let mut sound = true;
     let mut called = true;
-    for swap in case.path.swaps() {
-        let Some(step) = step_of(case.names, *swap) else {
-            unreachable!();
-        };
+    for step in steps {
         let count = station.count;
         let table = told(table_now(alloc, case.p, case.outline, station), count)?;
+        if !is_exchange(&table.lines, *step) {
+            return Err(WayStop::Fails);
+        }
         sound &= is_sound_there(case, &table);
-        called &= is_called_for(case, &table, step);
-        station = station_after(table, step, count);
+        called &= is_called_for(case, &table, *step);
+        station = station_after(table, *step, count);
     }
     Ok(Walked {
         station,

@@ -4,35 +4,35 @@ ghost use Rattle.cert_core.specs.Paths.{Path};
 ghost use Rattle.problem_core.specs.Layout.{Problem};
 ghost use Rattle.problem_core.specs.declared.parts.Mark.{Mark};
 ghost use Rattle.problem_core.specs.declared.stops.Quantity.{Quantity};
-ghost use Rattle.path_checker.specs.PathClauses.{HoldToApart, IsPathVerdict, row_of_terms};
+ghost use Rattle.path_checker.specs.PathClauses.{IsPathVerdict, row_of_terms};
+ghost use Rattle.path_checker.specs.Sides.{AreSteps};
 ghost use Rattle.path_checker.specs.Tables.{AreJudged};
 ghost use Rattle.path_checker.specs.Walking.Ways.{IsEnded, IsShortPath};
-ghost use Rattle.path_checker.specs.declared.verdict.TheConstants.{CORNER_CLAUSE};
 ghost use Rattle.path_claims.specs.Fits.{IsLastAfter, IsSizedLast, marks_after};
 ghost use Rattle.path_claims.specs.Journeys.{IsPathCase};
-ghost use Rattle.path_claims.specs.Judging.{IsFound, IsSoundLast, IsWalked, unjudged_from};
+ghost use Rattle.path_claims.specs.Judging.{IsAtFirst, IsFound, IsSoundLast, IsWalked, unjudged_from};
 
 use crate::along::{Walked, is_sound_there, walk};
 use crate::journey::{PathCase, to_first};
 use crate::last::{Fit, Last, fit_after, has_no_negative_before_after, is_sound_after};
 use crate::start::check_at_start;
-use crate::stations::table_now;
+use crate::stations::{Station, table_now};
 use cert_core::Path;
 use frac_core::OutOfMemory;
 use path_checker::{
-    CALLED_CLAUSE, CORNER_CLAUSE, PathVerdict, SOUND_CLAUSE, Step, UNFIT_CLAUSE, WayStop,
-    check_exchanges, names, sides_of, told,
+    APART_CLAUSE, CALLED_CLAUSE, CORNER_CLAUSE, EXCHANGES_CLAUSE, PathVerdict, SOUND_CLAUSE, Step,
+    UNFIT_CLAUSE, WayStop, comes_twice, names, sides_of, steps_of, told,
 };
 use path_levels::Outline;
 use problem_core::{Problem, Quantity, RowName};
 use std::alloc::Global;
 
-// The answer where the route ends early.
-fn ended(stop: WayStop) -> Result<PathVerdict, OutOfMemory>
-    ensures { IfOk result (IsEnded stop CORNER_CLAUSE) }
+// The answer where the route ends early: this clause fails, or there is no room.
+fn ended(stop: WayStop, clause: u32) -> Result<PathVerdict, OutOfMemory>
+    ensures { IfOk result (IsEnded stop clause) }
 {
     match stop {
-        WayStop::Fails => Ok(PathVerdict::No(CORNER_CLAUSE)),
+        WayStop::Fails => Ok(PathVerdict::No(clause)),
         WayStop::NoRoom(count) => Ok(PathVerdict::NoRoom(count)),
         WayStop::OutOfMemory => Err(OutOfMemory),
     }
@@ -152,13 +152,58 @@ fn verdict_there(
         count,
     ) {
         Ok(table) => table,
-        Err(stop) => return ended(stop),
+        Err(stop) => return ended(stop, CORNER_CLAUSE),
     };
     let all_sound = sound_ahead & is_sound_there(case, &table);
     Ok(verdict(all_sound, is_called_for, Fit::Unfit, count))
 }
 
 // The verdict on a path of whose clauses the first three hold.
+fn last_verdict(
+    alloc: Global,
+    case: PathCase<'_>,
+    walked: Walked,
+    unfit: Option<Quantity>,
+) -> Result<PathVerdict, OutOfMemory>
+    requires case { IsPathCase case }
+    requires walked { IsWalked case walked }
+    ensures { IfOk result (IsPathVerdict case.entry.p.now case.entry.path.now unfit) }
+{
+    let Some(named) = unfit else {
+        return verdict_there(alloc, case, walked);
+    };
+    match walked.station.step {
+        Some(step) => verdict_after(alloc, case, &walked, step, named),
+        None => check_at_start(alloc, case.p, case.outline, case.path, named),
+    }
+}
+
+// The verdict on a path whose first corner is one, and whose swaps are these.
+fn along_verdict(
+    alloc: Global,
+    case: PathCase<'_>,
+    steps: &[Step],
+    station: Station,
+    unfit: Option<Quantity>,
+) -> Result<PathVerdict, OutOfMemory>
+    requires case { IsPathCase case }
+    requires steps { AreSteps case.p.now case.path.now.swaps steps.now }
+    requires first { IsAtFirst case station }
+    ensures { IfOk result (IsPathVerdict case.entry.p.now case.entry.path.now unfit) }
+{
+    case.p.show_whole(); // for the proof: what a problem keeps
+    let is_twice = comes_twice(alloc, case.wanted, steps)?;
+    let walked = match walk(alloc, case, steps, station) {
+        Ok(walked) => walked,
+        Err(stop) => return ended(stop, EXCHANGES_CLAUSE),
+    };
+    if is_twice {
+        return Ok(PathVerdict::No(APART_CLAUSE));
+    }
+    last_verdict(alloc, case, walked, unfit)
+}
+
+// The verdict on a path of so many different marks as there are rows.
 fn judged(
     alloc: Global,
     case: PathCase<'_>,
@@ -169,36 +214,29 @@ fn judged(
 {
     let station = match to_first(alloc, case) {
         Ok(station) => station,
-        Err(stop) => return ended(stop),
+        Err(stop) => return ended(stop, CORNER_CLAUSE),
     };
-    let walked = match walk(alloc, case, station) {
-        Ok(walked) => walked,
-        Err(stop) => return ended(stop),
+    let Some(steps) = steps_of(alloc, case.names, case.path.swaps())? else {
+        return Ok(PathVerdict::No(EXCHANGES_CLAUSE));
     };
-    let Some(named) = unfit else {
-        return verdict_there(alloc, case, walked);
-    };
-    match walked.station.step {
-        Some(step) => verdict_after(alloc, case, &walked, step, named),
-        None => check_at_start(alloc, case.p, case.outline, case.path, named),
-    }
+    along_verdict(alloc, case, &steps, station, unfit)
 }
 
-// The same, from the problem and the path alone.
-fn check_rest(
+// The verdict on a path of as many marks as there are rows.
+fn check_marks(
     alloc: Global,
     p: &Problem,
     path: &Path,
     unfit: Option<Quantity>,
 ) -> Result<PathVerdict, OutOfMemory>
     requires count { IsShortPath path.now }
-    requires apart { HoldToApart p.now path.now }
+    requires rows { length path.now.corner ≡ length p.now.rows }
     ensures { IfOk result (IsPathVerdict p.now path.now unfit) }
 {
     p.show_whole(); // for the proof: what a problem keeps
     let names = names(alloc, p)?;
     let Some(wanted) = sides_of(alloc, &names, path.corner())? else {
-        unreachable!();
+        return Ok(PathVerdict::No(CORNER_CLAUSE));
     };
     let outline = Outline::of(alloc, p)?;
     let case = PathCase {
@@ -227,9 +265,8 @@ pub fn check_path(
     requires { IsShortPath path.now }
     ensures { IfOk result (IsPathVerdict p.now path.now unfit) }
 {
-    match check_exchanges(alloc, p, path)? {
-        PathVerdict::Yes => check_rest(alloc, p, path, unfit),
-        PathVerdict::No(clause) => Ok(PathVerdict::No(clause)),
-        PathVerdict::NoRoom(count) => Ok(PathVerdict::NoRoom(count)),
+    if path.corner().len() != p.rows().len() {
+        return Ok(PathVerdict::No(CORNER_CLAUSE));
     }
+    check_marks(alloc, p, path, unfit)
 }

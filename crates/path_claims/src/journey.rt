@@ -1,6 +1,7 @@
 // The checker's route to a path's first corner, with lines and levels.
 ghost use Rattle.std.specs.Prelude.{◌≡◌, ◌<◌, ◌≤◌, ◌+◌, ◌^◌, [], IfOk, IfErr, Some, length};
 ghost use Rattle.cert_core.specs.Paths.{Path};
+ghost use Rattle.problem_core.specs.Corners.{IsCorner};
 ghost use Rattle.path_checker.specs.Sides.{moved_sides};
 ghost use Rattle.path_checker.specs.Tables.{line_count};
 ghost use Rattle.path_checker.specs.Walking.Ways.{IsMarkStop};
@@ -126,6 +127,7 @@ pub fn to_first(alloc: Global, case: PathCase<'_>) -> Result<Station, WayStop>
     ensures count { IfOk result (λ station. station.count ≤ length case.entry.path.now.corner) }
     ensures arrived { IfOk result (IsOnRoute case.entry.p.now case.entry.path.now
         case.entry.outline.now []) }
+    ensures corner { IfOk result (λ _. IsCorner case.entry.p.now case.entry.path.now.corner) }
     ensures stop { IfErr result (IsMarkStop case.entry.p.now case.entry.path.now) }
 {
     let mut journey = first_journey(alloc, case.p)?;

@@ -8,8 +8,9 @@
 //! check_path(alloc, &problem, &path, Some(Quantity::Plain(What::Attr(7))))?     // PathVerdict::Yes
 //! ```
 //!
-//! A corner on the route is a [`Station`]: its lines (`path_checker`) and the rows of its levels
-//! (`path_levels`), or those of the corner before it with the exchange that leads there.
+//! The route is made once, and all clauses are judged along it. A corner on it is a [`Station`]: its lines
+//! (`path_checker`) and the rows of its levels (`path_levels`), or those of the corner before it with the
+//! exchange that leads there.
 //!
 //! Linear programming's words: a corner is a basic solution, the marks inside are its basis, and an exchange
 //! is a pivot of the tableau, of which the lines are the rows and the levels' rows the objective rows. What

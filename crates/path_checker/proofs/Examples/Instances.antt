@@ -1,14 +1,12 @@
 -- The words of the first four clauses in small cases.
-use Rattle.std.proofs.Common.{◌≡◌, ◌≢◌, ◌∙◌, ℕ, zero, suc, ◌+◌, ◌≤◌, ◌↔◌, Bool, true, false, cond, nat_eq, List, [], ◌∷◌, length, pos, negsuc, ◌+ℤ◌, refl, sym, ap, subst, arith, inl, inr, ◌⊎◌, Option, None, Some, ne_eqb}
-use Rattle.std.specs.Prelude.{slice_index_or}
+use Rattle.std.proofs.Common.{◌≡◌, ◌≢◌, ℕ, zero, suc, ◌+◌, ◌≤◌, Bool, true, false, cond, nat_eq, List, [], ◌∷◌, length, pos, negsuc, ◌+ℤ◌, refl, sym, ap, subst, arith, inl, inr, ◌⊎◌, None, ne_eqb}
 use Rattle.std.proofs.lemmas.List.Elements.{All-from_recursion, recursion_from_All}
 use Rattle.std.proofs.lemmas.Bool.{cases_eq}
 use Rattle.frac_core.specs.Fraction.{IsFitting, IsKept}
-use Rattle.problem_core.specs.declared.parts.Side.{Side}
 use Rattle.problem_core.specs.declared.parts.Term.{Term}
 use Rattle.problem_core.specs.Layout.{Row, coefficient, lines, value_at}
 use Rattle.problem_core.specs.Changes.Begins.{AreExchanges}
-use Rattle.problem_core.specs.Corners.{IsCorner, IsIn, IsWritingOf, NoNegativeValue, SameMarks, Swap, attr_column, equation, one_column, place, place_of}
+use Rattle.problem_core.specs.Corners.{IsCorner, IsIn, IsWritingOf, NoNegativeValue, SameMarks, Swap, attr_column, equation, one_column, place}
 use Rattle.problem_core.specs.Unfit.{HasNoWriting, first_terms}
 use Rattle.corner_laws.specs.Examples.{at_least, over_row, over_stay, single, under_row}
 use Rattle.corner_laws.proofs.Instances.Examples.{terms_unfit}
@@ -16,15 +14,12 @@ use Rattle.corner_laws.proofs.MarkWritings.Fits.{one_factor, whole_is_kept, sum-
 use Rattle.corner_laws.proofs.Instances.PathExamples.{alone-in, no, no_primal_path, over_corner, primal_path, stay-sound, under-sound, under_corner}
 use Rattle.corner_laws.proofs.Instances.RunExamples.{single_whole}
 use Rattle.path_checker.specs.declared.verdict.PathVerdict.TheVariants.{No}
-use Rattle.path_checker.specs.declared.way.Way.{Way}
 use Rattle.path_checker.specs.Walking.FirstLines.{HasUnfitFirst}
-use Rattle.path_checker.specs.Instances.{HasBegun, below_bound, SomePathsHold, from_bound, going, to_bound, to_bound_step}
+use Rattle.path_checker.specs.Instances.{Breaks, IsAtBegin, below_bound, SomePathsHold, from_bound, going, to_bound, to_bound_step}
 use Rattle.path_checker.specs.PathClauses.{AreApart, AreSound, IsPathVerdict}
 use Rattle.path_checker.specs.Route.{corner_after}
-use Rattle.path_checker.specs.Sides.{IsWithin}
-use Rattle.path_checker.specs.Tables.{name_at}
-use Rattle.path_checker.specs.Walking.Ways.{AreFollowed, IsExchangeVerdict, IsWayAt}
-use Rattle.path_checker.proofs.Walking.WayBegins.{way_begins}
+use Rattle.path_checker.specs.Sides.{AreSteps, IsWithin}
+use Rattle.path_checker.proofs.Walking.FirstCorner.{begins_there}
 use Rattle.path_checker.proofs.Examples.WayExamples.{over_is}
 use Rattle.corner_laws.proofs.Instances.DualExamples.{over-holds as row_holds}
 
@@ -132,36 +127,40 @@ small_first (zero, q, here, same, (j, (zero, r, within, is, (mark, over, low, hi
 small_first (zero, q, here, same, (j, (suc k, r, within, is, more))) = absurd (omega (arith, within))
 small_first (suc k, q, here, same, more) = absurd (omega (arith, here))
 
--- ---- ways
+-- ---- the route
 
-begun : (way : Way) → HasBegun way → IsWayAt (single 5) (going []) [] (under_row ∷ []) way
-begun way is = way_begins (single 5) (going []) way single_whole is.step is.count (record {
-  count = ap (λ (o : List (Option Side)). length o) is.sides;
-  each = λ k side less. subst (λ (o : List (Option Side)). (slice_index_or o k None ≡ Some side) ↔ IsIn (place_of (name_at (single 5) k) side) (over_row ∷ [])) (sym is.sides) (over_is.each k side less);
-})
+begun : IsAtBegin [] (under_row ∷ [])
+begun = record {
+  done = [];
+  count = refl;
+  begun = refl;
+  there = begins_there (single 5) single_whole;
+  kept = tt;
+  sides = over_is;
+  goes_on = λ more goes. goes;
+  inside = λ k d within. absurd (omega (arith, within));
+  wanted = λ k d within. absurd (omega (arith, within));
+  new = tt;
+}
 
 no_mark_there : (done : List Swap) → length done ≡ 0 → IsIn (place under_row) (corner_after (single 5) done) → ⊥
 no_mark_there [] count i = alone-in over_row 4 (no 4 5 (inl (omega arith))) i
 no_mark_there (s ∷ done) count i = absurd (omega (arith, count))
 
-not_there : (way : Way) → HasBegun way → IsWayAt (single 5) (going []) (under_row ∷ []) [] way → ⊥
-not_there way is at = no_mark_there at.done (at.count ∙ is.count) (recursion_from_All (λ m. IsIn (place m) (corner_after (single 5) at.done)) (under_row ∷ []) at.inside).0
+not_there : IsAtBegin (under_row ∷ []) [] → ⊥
+not_there at = no_mark_there at.done at.count (recursion_from_All (λ m. IsIn (place m) (corner_after (single 5) at.done)) (under_row ∷ []) at.inside).0
 
 goes : AreExchanges (single 5) (under_row ∷ []) (to_bound ∷ [])
 goes = (primal_path.lawful.2, tt)
 
-followed : AreFollowed (single 5) (going (to_bound ∷ [])) (to_bound_step ∷ [])
-followed = record {
-  exchanges = goes;
-  swaps = refl;
-  within = All-from_recursion (IsWithin 2) (to_bound_step ∷ []) ((omega arith, omega arith), tt);
-}
+steps_are : AreSteps (single 5) (to_bound ∷ []) (to_bound_step ∷ [])
+steps_are = record { swaps_are = refl; within = All-from_recursion (IsWithin 2) (to_bound_step ∷ []) ((omega arith, omega arith), tt) }
 
 some_swap : (s : Swap) → [] ≡ s ∷ [] → ⊥
 some_swap s e = let count = ap (λ (ss : List Swap). length ss) e in absurd (omega (arith, count))
 
-one_is_left : AreFollowed (single 5) (going (to_bound ∷ [])) [] → ⊥
-one_is_left are = some_swap to_bound are.swaps
+one_is_left : AreSteps (single 5) (to_bound ∷ []) [] → ⊥
+one_is_left are = some_swap to_bound are.swaps_are
 
 -- the under mark is inside before
 is_inside : AreExchanges (single 5) (under_row ∷ []) (from_bound ∷ []) → ⊥
@@ -183,7 +182,7 @@ not_apart apart = apart 0 2 [] (omega arith) (omega arith) again
 no_count : IsCorner (single 5) [] → ⊥
 no_count corner = let c = corner.count in absurd (omega (arith, c))
 
-not_ten : IsExchangeVerdict (single 5) (going (to_bound ∷ [])) (No 10) → ⊥
+not_ten : Breaks 10 (going (to_bound ∷ [])) → ⊥
 not_ten answer = elim (answer None) [
   | inl h ↦ h.1 under_corner
   | inr (inl h) ↦ h.2 goes
@@ -220,9 +219,8 @@ some_paths_hold = record {
   ways = record {
     begun = begun;
     not_there = not_there;
-    followed = followed;
+    steps = steps_are;
     one_is_left = one_is_left;
-    no_exchange = λ steps are. is_inside are.exchanges;
   };
   verdicts = record {
     lawful = (record { corner = under_corner; exchanges = goes }, primal_path.apart);

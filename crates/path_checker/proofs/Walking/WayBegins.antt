@@ -2,7 +2,7 @@
 use Rattle.std.proofs.Common.{◌≡◌, ◌≢◌, ◌∙◌, ◌↔◌, ℕ, zero, suc, ◌+◌, ◌<◌, ◌++◌, List, [], ◌∷◌, length, map, take, drop, get_or, pos, All, refl, sym, ap, ap₂, subst, subst₂, arith, inl, inr, Option, None, Some, length-append}
 use Rattle.std.specs.Prelude.{slice_index_or}
 use Rattle.std.proofs.lemmas.Bool.{cases_eq}
-use Rattle.std.proofs.lemmas.List.{get_or_append_left, get_or_push, length-map, take_more}
+use Rattle.std.proofs.lemmas.List.{get_or_append_left, get_or_push, length-map}
 use Rattle.problem_core.specs.declared.parts.Mark.{Mark}
 use Rattle.problem_core.specs.declared.parts.RowName.{RowName}
 use Rattle.problem_core.specs.declared.parts.RowName.TheVariants.{Held, Stay as StayOf}
@@ -10,21 +10,17 @@ use Rattle.problem_core.specs.declared.parts.Side.{Side}
 use Rattle.problem_core.specs.declared.parts.Rel.TheVariants.{Eq}
 use Rattle.problem_core.specs.declared.parts.Side.TheVariants.{Under, Over}
 use Rattle.problem_core.specs.declared.parts.Stay.{Stay}
-use Rattle.problem_core.specs.Kept.{IsWhole}
 use Rattle.problem_core.specs.Layout.{Line, Problem, Row, lines}
 use Rattle.problem_core.specs.Corners.{IsCorner, IsIn, place, place_of}
 use Rattle.problem_core.specs.Unfit.{over_mark}
 use Rattle.cert_core.specs.Paths.{Path}
 use Rattle.path_checker.specs.declared.spots.Spot.{Spot}
-use Rattle.path_checker.specs.declared.spots.Step.{Step}
-use Rattle.path_checker.specs.declared.way.Way.{Way}
 use Rattle.path_checker.specs.Route.{over_marks}
-use Rattle.path_checker.specs.Tables.{AreSides, IsSpotOf, line_count, mark_of, name_at, names_of}
-use Rattle.path_checker.specs.Walking.Ways.{AreFirstSides, IsKeptBy, IsNextMark, IsWayAt}
-use Rattle.path_checker.proofs.Walking.FirstCorner.{begins_there}
+use Rattle.path_checker.specs.Tables.{IsSpotOf, line_count, mark_of, name_at, names_of}
+use Rattle.path_checker.specs.Walking.Ways.{AreFirstSides}
 use Rattle.path_checker.proofs.Walking.FirstLines.{over_in, row_name, stay_name, stay_outside}
 use Rattle.path_checker.proofs.MarkSides.TakenMarks.{no_line}
-use Rattle.path_checker.proofs.MarkSides.Walks.{first_of_rest, split_there}
+use Rattle.path_checker.proofs.MarkSides.Walks.{split_there}
 use Rattle.problem_core.proofs.Sides.{none-not-some as none_some, some-same as some_same}
 
 -- ---- the over marks by lines
@@ -70,22 +66,6 @@ stay_none p i s side within = (
     out Under = (stay_outside p (get_or p.stays i s).attr).under
     out Over = (stay_outside p (get_or p.stays i s).attr).over
 
--- ---- where the route begins
-
-pub way_begins : (p : Problem) (path : Path) (way : Way) → IsWhole p → way.kept.step ≡ None → way.kept.count ≡ 0 → AreFirstSides p (line_count p) way.sides.items → IsWayAt p path [] path.corner way
-way_begins p path way whole step_is count_is sides = record {
-  done = [];
-  count = sym count_is;
-  begun = step_is;
-  there = begins_there p whole;
-  kept = subst (λ (o : Option Step). IsKeptBy p (over_marks p) way.kept.lines.items o) (sym step_is) refl;
-  sides = record { count = sides.count; each = sides.each };
-  goes_on = λ more goes. goes;
-  inside = λ k d within. absurd (omega (arith, within));
-  wanted = λ k d within. absurd (omega (arith, within));
-  new = tt;
-}
-
 -- ---- the next mark
 
 pub spot_is : (p : Problem) (names : List RowName) (m : Mark) (spot : Spot) → names ≡ names_of p → IsSpotOf names m spot → (spot.at < line_count p) × (m ≡ mark_of p spot)
@@ -105,24 +85,8 @@ any_row = record { id = 0; rank = 0; weight = 0; rel = Eq; scale = 1; constant =
 abbrev pub any_stay : Stay
 any_stay = record { attr = 0; target = record { num = pos 0; den = 1 } }
 
-pub next_mark : (p : Problem) (path : Path) (items : List Mark) (names : List RowName) (i : ℕ) (d : Mark) (way : Way) (sides : List (Option Side)) (enter : Spot) → items ≡ path.corner → names ≡ names_of p → i < length items → AreSides p path.corner sides
-    → IsSpotOf names (get_or items i d) enter → IsWayAt p path (take i path.corner) (drop i path.corner) way → IsNextMark p path (take i path.corner) (get_or path.corner i d) (drop (i + 1) path.corner) way sides enter
-next_mark p path items names i d way sides enter same named within are spot is =
-    let here : i < length path.corner = subst (λ (ms : List Mark). i < length ms) same within in
-    record {
-      mark = (spot_is p names (get_or path.corner i d) enter named (subst (λ (ms : List Mark). IsSpotOf names (get_or ms i d) enter) same spot)).1;
-      wanted = mark_in path.corner i d here;
-      sides_are = are;
-      way_is = subst (λ (ms : List Mark). IsWayAt p path (take i path.corner) ms way) (first_of_rest path.corner i d here) is;
-    }
-
 pub no_spot : (p : Problem) (path : Path) (items : List Mark) (names : List RowName) (i : ℕ) (d : Mark) → items ≡ path.corner → names ≡ names_of p → i < length items → All (λ n. n ≢ (get_or items i d).row) names → IsCorner p path.corner → ⊥
 no_spot p path items names i d same named within none corner =
     let here : i < length path.corner = subst (λ (ms : List Mark). i < length ms) same within in
     no_line p names (take i path.corner) (drop (i + 1) path.corner) (get_or path.corner i d) named (subst (λ (ms : List Mark). All (λ n. n ≢ (get_or ms i d).row) names) same none)
     (subst (IsCorner p) (split_there path.corner i d here) corner)
-
-pub way_more : (p : Problem) (path : Path) (items : List Mark) (i : ℕ) (d : Mark) (way : Way) → items ≡ path.corner → i < length items → IsWayAt p path (take i path.corner ++ get_or path.corner i d ∷ []) (drop (i + 1) path.corner) way
-    → IsWayAt p path (take (i + 1) path.corner) (drop (i + 1) path.corner) way
-way_more p path items i d way same within is =
-    subst (λ (ms : List Mark). IsWayAt p path ms (drop (i + 1) path.corner) way) (sym (take_more path.corner i d (subst (λ (ms : List Mark). i < length ms) same within))) is

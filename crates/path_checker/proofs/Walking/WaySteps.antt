@@ -5,25 +5,19 @@ use Rattle.std.proofs.lemmas.List.Elements.{All-push}
 use Rattle.problem_core.specs.declared.parts.Mark.{Mark}
 use Rattle.problem_core.specs.declared.parts.Side.{Side}
 use Rattle.problem_core.specs.declared.stops.Quantity.{Quantity}
-use Rattle.problem_core.specs.declared.stops.Quantity.TheVariants.{Plain, Terms}
-use Rattle.problem_core.specs.Layout.{Problem, lines}
-use Rattle.problem_core.specs.Corners.{IsIn, Swap, exchanged, marks_of, place}
+use Rattle.problem_core.specs.Layout.{Problem}
+use Rattle.problem_core.specs.Corners.{IsIn, Swap, exchanged, place}
 use Rattle.problem_core.specs.Changes.Paths.{last_marks}
-use Rattle.problem_core.specs.Unfit.{IsUnfitAt, over_mark}
+use Rattle.problem_core.specs.Unfit.{IsUnfitAt}
 use Rattle.corner_laws.proofs.Rays.{rays_after}
 use Rattle.cert_core.specs.Paths.{Path}
 use Rattle.path_checker.specs.declared.spots.Spot.{Spot}
 use Rattle.path_checker.specs.declared.spots.Step.{Step}
-use Rattle.path_checker.specs.declared.way.Kept.{Kept}
-use Rattle.path_checker.specs.declared.way.Way.{Way}
-use Rattle.path_checker.specs.declared.way.WayStop.{WayStop}
-use Rattle.path_checker.specs.declared.way.WayStop.TheVariants.{Fails, NoRoom, OutOfMemory}
 use Rattle.path_checker.specs.Room.{Counts, CountsOnTheWay, HasNoRoom}
-use Rattle.path_checker.specs.Route.{GoesBy, IsRoute, IsWholeRoute, MayGiveWay, corner_after, over_marks}
+use Rattle.path_checker.specs.Route.{GoesBy, IsRoute, IsWholeRoute, corner_after, over_marks}
 use Rattle.path_checker.specs.Sides.{moved_sides}
 use Rattle.path_checker.specs.Tables.{AreSides, IsThere, line_count, mark_of, swap_of}
-use Rattle.path_checker.specs.Walking.Ways.{AreNew, HasMarkMore, IsBegun, IsBringStop, IsBrought, IsBroughtBy, IsKept, IsMarkStop, IsRouteAt, IsStuckBy, IsWayAt, StopsAtMark}
-use Rattle.path_checker.proofs.Walking.Bringing.{none_gives_way}
+use Rattle.path_checker.specs.Walking.Ways.{AreNew, IsBegun, IsBroughtBy, IsRouteAt}
 use Rattle.path_checker.proofs.Places.{mark_is_there}
 use Rattle.path_checker.proofs.MarkSides.SidesApart.{moved_are_sides}
 use Rattle.problem_core.proofs.Marks.{last-more as last_more, entered-in as enter_in, kept-in as kept_in}
@@ -65,12 +59,6 @@ pub record IsCounting (p : Problem) (done : List Swap) : Type 0 where
   pub quantity : Quantity
   pub counts : CountsOnTheWay done quantity
   pub unfit : IsUnfitAt p (corner_after p done) quantity
-
-pub counting : (p : Problem) (done : List Swap) (o : Option Step) → IsBegun done o → IsStuckBy p (corner_after p done) o → IsCounting p done
-counting p [] None begun (k, r, within, is, unfit) = record { quantity = Terms (over_mark r.id) unfit.0; counts = tt; unfit = unfit.1 }
-counting p [] (Some step) begun stuck = absurd (some_apart step begun)
-counting p (s ∷ done) None begun stuck = absurd (begun refl)
-counting p (s ∷ done) (Some step) begun (what, unfit) = record { quantity = Plain what; counts = tt; unfit = unfit }
 
 pub counts_there : (p : Problem) (path : Path) (unfit : Option Quantity) (done : List Swap) (q : Quantity) → (IsWholeRoute p path done → ⊥) → CountsOnTheWay done q → Counts p path unfit done q
 counts_there p path None done q not_whole counts = counts
@@ -138,38 +126,6 @@ one_mark_more p path holds next_holds before rest made next_made last next_last 
       new = new_more path.corner (over_marks p) is.done s is.new (subst (λ (n : Mark). IsIn (place n) path.corner) (sym enter_is) want) b.gives.may.exchange.enters;
     }
 
-pub mark_stops : (p : Problem) (path : Path) (before rest : List Mark) (way : Way) (m : Mark) (enter : Spot) (sides : List (Option Side)) (stop : WayStop) → (is : IsWayAt p path before (m ∷ rest) way) → m ≡ mark_of p enter → IsIn (place m) path.corner
-    → (IsIn (place m) (corner_after p is.done) → ⊥) → enter.at < line_count p → AreSides p path.corner sides → IsBringStop p way.kept sides enter stop → IsMarkStop p path stop
-mark_stops p path before rest way m enter sides Fails is mark want out within are stops =
-    let none = stops path.corner (corner_after p is.done) is.kept are in
-    none_gives_way p path.corner (corner_after p is.done) m none.0.corner none.0.rays (subst (λ (n : Mark). IsIn (place n) (marks_of (lines p))) (sym mark) (mark_is_there p enter.at enter.side within)) out want
-    (λ n may. none.1 n (subst (λ (x : Mark). MayGiveWay p path.corner (corner_after p is.done) (record { enter = x; leave = n })) mark may))
-mark_stops p path before rest way m enter sides (NoRoom n) is mark want out within are stops = λ unfit.
-    no_room_there p path (λ ms. IsKept p ms way.kept) before rest way.kept.count way.kept.step way.sides.items m n unfit is want out stops.0 (counting p is.done way.kept.step is.begun (stops.1 (corner_after p is.done) is.kept))
-mark_stops p path before rest way m enter sides OutOfMemory is mark want out within are stops = tt
-
 -- whether the mark is inside, by the sides
 pub inside_by_sides : (p : Problem) (at : List Mark) (sides : List (Option Side)) (m : Mark) (enter : Spot) → AreSides p at sides → m ≡ mark_of p enter → enter.at < line_count p → (slice_index_or sides enter.at None ≡ Some enter.side) ↔ IsIn (place m) at
 inside_by_sides p at sides m enter are mark within = subst (λ (n : Mark). (slice_index_or sides enter.at None ≡ Some enter.side) ↔ IsIn (place n) at) (sym mark) (are.each enter.at enter.side within)
-
--- ---- as the code goes
-
-pub mark_was_inside : (p : Problem) (way : Way) (sides : List (Option Side)) (enter : Spot) → enter.at < line_count p → slice_index_or way.sides.items enter.at None ≡ Some enter.side → HasMarkMore p way sides enter way
-mark_was_inside p way sides enter within here path before m rest next =
-    already_inside p path (λ ms. IsKept p ms way.kept) before rest way.kept.count way.kept.step way.sides.items m next.way_is next.wanted ((inside_by_sides p (corner_after p next.way_is.done) way.sides.items m enter next.way_is.sides next.mark within).0 here)
-
-pub mark_came : (p : Problem) (way next : Way) (kept : Kept) (sides : List (Option Side)) (enter : Spot) → enter.at < line_count p → (slice_index_or way.sides.items enter.at None ≡ Some enter.side → ⊥)
-    → ((wanted at : List Mark) → IsKept p at way.kept → AreSides p wanted sides → IsBrought p wanted at enter way.kept kept) → next.kept ≡ kept → ((step : Step) → kept.step ≡ Some step → next.sides.items ≡ moved_sides step way.sides.items)
-    → HasMarkMore p way sides enter next
-mark_came p way next kept sides enter within out brings kept_is sides_is path before m rest is =
-    let at : List Mark = corner_after p is.way_is.done in
-    let b : IsBrought p path.corner at enter way.kept kept = brings path.corner at is.way_is.kept is.sides_are in
-    let c : IsBrought p path.corner at enter way.kept next.kept = subst (λ (k : Kept). IsBrought p path.corner at enter way.kept k) (sym kept_is) b in
-    one_mark_more p path (λ ms. IsKept p ms way.kept) (λ ms. IsKept p ms next.kept) before rest way.kept.count next.kept.count way.kept.step next.kept.step way.sides.items next.sides.items m enter is.way_is is.mark is.wanted
-    (λ i. out ((inside_by_sides p at way.sides.items m enter is.way_is.sides is.mark within).1 i)) c
-    (sides_is c.step (sym (ap (λ (k : Kept). k.step) kept_is) ∙ c.step_is))
-
-pub mark_stopped : (p : Problem) (way : Way) (sides : List (Option Side)) (enter : Spot) (stop : WayStop) → enter.at < line_count p → (slice_index_or way.sides.items enter.at None ≡ Some enter.side → ⊥) → IsBringStop p way.kept sides enter stop → StopsAtMark p way sides enter stop
-mark_stopped p way sides enter stop within out stops path before m rest is =
-    mark_stops p path before rest way m enter sides stop is.way_is is.mark is.wanted
-    (λ i. out ((inside_by_sides p (corner_after p is.way_is.done) way.sides.items m enter is.way_is.sides is.mark within).1 i)) within is.sides_are stops

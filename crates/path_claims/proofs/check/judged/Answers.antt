@@ -1,12 +1,6 @@
-use Rattle.std.proofs.Common.{sym, subst, IfOk, Option}
-use Rattle.problem_core.specs.declared.stops.Quantity.{Quantity}
-use Rattle.path_checker.specs.PathClauses.{IsPathVerdict}
-use Rattle.path_claims.proofs.LastSteps.{at_start_marks}
+use Rattle.path_checker.proofs.Exchanges.Leading.{ok_then}
+use Rattle.path_claims.proofs.LastSteps.{stopped}
 use Rattle.path_claims.proofs.check.judged.Goals as goal
 
-pub returns-in-Some-step : goal.returns-in-Some-step
-returns-in-Some-step c =
-    subst (λ (o : Option Quantity). IfOk c.verdict_after.result (IsPathVerdict c.args.case.p.now c.args.case.path.now o)) (sym c.in-Some.is) c.verdict_after.ensures
-
-pub check_at_start-requires-clause-marks : goal.check_at_start-requires-clause-marks
-check_at_start-requires-clause-marks c = at_start_marks c.args.case.p.now c.args.case.path.now c.args.case.outline.now c.in-Ok-walk.walked.station c.in-Ok-walk.ensures.arrived c.in-None.is
+pub returns-in-Err : goal.returns-in-Err
+returns-in-Err c = ok_then c.ended.result (λ v is. stopped c.args.case.p.now c.args.case.path.now c.args.unfit c.in-Err.stop v c.in-Err.ensures.stop is) c.ended.ensures

@@ -1,4 +1,4 @@
-use Rattle.std.proofs.Common.{pos, SFits, rules, subst, List}
+use Rattle.std.proofs.Common.{SFits, rules, subst, List}
 use Rattle.std.specs.Int.{w64}
 use Rattle.std.proofs.lemmas.Int.{to_z-of_z}
 use Rattle.problem_core.specs.declared.parts.Stay.{Stay}

@@ -5,7 +5,7 @@ use Rattle.path_checker.specs.declared.spots.Spot.{Spot}
 use Rattle.path_checker.specs.Sides.{IsWithin}
 use Rattle.path_checker.specs.Tables.{line_count}
 use Rattle.path_checker.specs.Walking.Bringing.{IsBringing, NothingBrings}
-use Rattle.path_checker.proofs.Walking.WayLines.{err_says, ok_says}
+use Rattle.path_checker.proofs.Results.{err_says, ok_says}
 use Rattle.path_claims.specs.Stations.{IsSizedTable}
 use Rattle.path_claims.proofs.JourneySteps.{bring_stuck, brings_in, brings_nothing, usable_after}
 use Rattle.path_claims.proofs.StationTables.{outline_long}

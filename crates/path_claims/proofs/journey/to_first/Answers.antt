@@ -1,10 +1,8 @@
-use Rattle.std.proofs.Common.{◌≡◌, ◌≤◌, List, length, ap, subst₂, take_all, arith}
-use Rattle.std.proofs.lemmas.List.{drop_all}
+use Rattle.std.proofs.Common.{◌≡◌, List, length, ap, arith}
 use Rattle.std.proofs.lemmas.Result.{err_from_is_err_and}
 use Rattle.problem_core.specs.declared.parts.Mark.{Mark}
 use Rattle.path_checker.proofs.Walking.WayBegins.{no_spot}
-use Rattle.path_claims.specs.Journeys.{IsJourneyAt}
-use Rattle.path_claims.proofs.JourneySteps.{journey_ends, journey_more, next_mark}
+use Rattle.path_claims.proofs.JourneySteps.{corner_then, journey_done, journey_ends, journey_more, next_mark}
 use Rattle.path_claims.proofs.journey.to_first.Goals as goal
 
 pub loop-mark-init : goal.loop-mark-init
@@ -36,7 +34,11 @@ loop-mark-preserved c = record {
 pub returns-clause-arrived : goal.returns-clause-arrived
 returns-clause-arrived c =
     let count : length c.corner-mark-items.result.now ≡ length c.args.case.path.now.corner = ap (λ (ms : List Mark). length ms) c.corner-mark-items.ensures in
-    let done : length c.args.case.path.now.corner ≤ c.loop-mark.mark-index = omega (arith, count, c.loop-mark-test.false) in
-    journey_ends c.args.case.p.now c.args.case.path.now c.args.case.outline.now c.loop-mark.journey c.requires.holds.0.corner
-    (subst₂ (λ (a b : List Mark). IsJourneyAt c.args.case.p.now c.args.case.path.now c.args.case.outline.now a b c.loop-mark.journey) (take_all c.loop-mark.mark-index c.args.case.path.now.corner done) (drop_all c.loop-mark.mark-index c.args.case.path.now.corner done)
-    c.loop-mark.invariant.journey)
+    journey_ends c.args.case.p.now c.args.case.path.now c.args.case.outline.now c.loop-mark.journey c.requires.rows c.requires.apart
+    (journey_done c.args.case.p.now c.args.case.path.now c.args.case.outline.now c.loop-mark.mark-index c.loop-mark.journey (omega (arith, count, c.loop-mark-test.false)) c.loop-mark.invariant.journey)
+
+pub returns-clause-corner : goal.returns-clause-corner
+returns-clause-corner c =
+    let count : length c.corner-mark-items.result.now ≡ length c.args.case.path.now.corner = ap (λ (ms : List Mark). length ms) c.corner-mark-items.ensures in
+    corner_then c.args.case.p.now c.args.case.path.now c.args.case.outline.now c.loop-mark.journey c.requires.rows c.requires.apart
+    (journey_done c.args.case.p.now c.args.case.path.now c.args.case.outline.now c.loop-mark.mark-index c.loop-mark.journey (omega (arith, count, c.loop-mark-test.false)) c.loop-mark.invariant.journey)

@@ -1,5 +1,4 @@
-use Rattle.std.proofs.Common.{◌≢◌, ◌∙◌, ℕ, ◌+◌, ◌-◌, ◌++◌, List, [], ◌∷◌, sym, ap, subst, arith, All, refl}
-use Rattle.problem_core.specs.declared.parts.Level.TheVariants.{Priority}
+use Rattle.std.proofs.Common.{◌≢◌, ◌∙◌, ◌+◌, ◌-◌, List, sym, ap, subst, arith, All, refl}
 use Rattle.problem_core.specs.Layout.{Row}
 use Rattle.path_levels.specs.declared.outline.LevelFacts.{LevelFacts}
 use Rattle.path_levels.specs.OutlineParts.{AreRankLevels}
