@@ -3,3 +3,4 @@ pub mod Counts
 pub mod Leaves
 pub mod RunFacts
 pub mod Deciders
+pub mod TieKeys

@@ -7,8 +7,8 @@ ghost use Rattle.problem_core.specs.Corners.{IsIn};
 ghost use Rattle.problem_core.specs.declared.parts.Mark as mark_type;
 ghost use Rattle.problem_core.specs.declared.parts.Side as side_type;
 ghost use Rattle.corner.specs.Views.{IsMarkOf, IsNamed};
-ghost use Rattle.primal_run.specs.Deciding.{FromFirst, HasBegun, IsDecider, IsNoLater, IsOfRow};
-ghost use Rattle.primal_run.specs.Deciding.{IsSeen, IsTie, line_key, mark_key};
+ghost use Rattle.primal_run.specs.Deciding.{FromTies, HasBegun, IsDecider, IsNoLater, IsOfRow};
+ghost use Rattle.primal_run.specs.Deciding.{IsSeen, IsTie, line_key, mark_key, tie_key};
 ghost use Rattle.primal_run.specs.Leaving.{IsEarlier, IsRatioAt, WinsTie};
 
 use crate::ties::{Ratio, count_order};
@@ -68,18 +68,35 @@ fn is_before(c: &Corner, f: Mark, g: Mark) -> bool
     }
 }
 
-// The one of the two that stands before the other.
+// Whether the first mark breaks ties before the other one: the marks of rows do as they stand, and behind
+// them those of stays, last first.
+fn decides_before(c: &Corner, f: Mark, g: Mark) -> bool
+    requires f { IsMarkOf c.now.problem f }
+    requires g { IsMarkOf c.now.problem g }
+    ensures yes { result ≡ true → tie_key c.now.problem.stays f < tie_key c.now.problem.stays g }
+    ensures no { result ≡ false → tie_key c.now.problem.stays g ≤ tie_key c.now.problem.stays f }
+{
+    c.show_corner(); // for the proof: what a corner keeps
+    match (f.row, g.row) {
+        (RowName::Held(_), RowName::Held(_)) => is_before(c, f, g),
+        (RowName::Held(_), RowName::Stay(_)) => true,
+        (RowName::Stay(_), RowName::Held(_)) => false,
+        (RowName::Stay(_), RowName::Stay(_)) => is_before(c, g, f),
+    }
+}
+
+// The one of the two that decides before the other.
 fn sooner(c: &Corner, found: Option<Decider>, next: Decider) -> Decider
     requires found { IfSome found (λ d. IsMarkOf c.now.problem d.mark) }
     requires next { IsMarkOf c.now.problem next.mark }
     ensures one { (found ≡ Some result) ⊎ (result ≡ next) }
     ensures found { IsNoLater c.now.problem found (Some result) }
-    ensures next { mark_key c.now.problem.stays result.mark ≤ mark_key c.now.problem.stays next.mark }
+    ensures next { tie_key c.now.problem.stays result.mark ≤ tie_key c.now.problem.stays next.mark }
 {
     match found {
         None => next,
         Some(d) => {
-            if is_before(c, next.mark, d.mark) {
+            if decides_before(c, next.mark, d.mark) {
                 next
             } else {
                 d
@@ -171,8 +188,8 @@ fn see_row(c: &Corner, trail: &Trail, tie: Tie, m: Mark, found: Option<Decider>)
     best
 }
 
-// The first mark of the run's first corner at which the two count differently. Where no number of a mark
-// stands in either writing, both count 0.
+// The mark of the run's first corner that decides: the first in the order of ties at which the two count
+// differently. Where no number of a mark stands in either writing, both count 0.
 fn deciding(c: &Corner, trail: &Trail, tie: Tie) -> Option<Decider>
     requires tie { IsTie c.now.marks tie }
     ensures decider { IfSome result (IsDecider c.now.problem c.now.marks tie) }
@@ -200,10 +217,10 @@ fn is_less(order: Ordering) -> bool
 fn breaks_tie(c: &Corner, trail: &Trail, a: Ratio, b: Ratio, enter: Mark) -> bool
     requires a { IsRatioAt c.now.problem c.now.marks (corners.place enter) a }
     requires b { IsRatioAt c.now.problem c.now.marks (corners.place enter) b }
-    ensures yes { result ≡ true → FromFirst c.now trail.now (λ first.
-        WinsTie c.now.problem c.now.marks (corners.place enter) first a.mark b.mark) }
-    ensures no { result ≡ false → FromFirst c.now trail.now (λ first.
-        WinsTie c.now.problem c.now.marks (corners.place enter) first b.mark a.mark) }
+    ensures yes { result ≡ true → FromTies c.now trail.now (λ ties.
+        WinsTie c.now.problem c.now.marks (corners.place enter) ties a.mark b.mark) }
+    ensures no { result ≡ false → FromTies c.now trail.now (λ ties.
+        WinsTie c.now.problem c.now.marks (corners.place enter) ties b.mark a.mark) }
 {
     c.show_corner(); // for the proof: what a corner keeps
     let found = deciding(c, trail, Tie { a, b });
@@ -218,8 +235,8 @@ pub(crate) fn earlier(c: &Corner, trail: &Trail, a: Ratio, b: Ratio, enter: Mark
     requires a { IsRatioAt c.now.problem c.now.marks (corners.place enter) a }
     requires b { IsRatioAt c.now.problem c.now.marks (corners.place enter) b }
     ensures ratio { IsRatioAt c.now.problem c.now.marks (corners.place enter) result }
-    ensures earlier { FromFirst c.now trail.now (λ first.
-        IsEarlier c.now.problem c.now.marks (corners.place enter) first a b result) }
+    ensures earlier { FromTies c.now trail.now (λ ties.
+        IsEarlier c.now.problem c.now.marks (corners.place enter) ties a b result) }
 {
     c.show_corner(); // for the proof: what a corner keeps
     match cmp_wide(a.above, a.below, b.above, b.below) {

@@ -2,7 +2,7 @@
 ghost use Rattle.std.specs.Prelude.{◌≡◌, ◌⊎◌, ◌<◌, ◌-◌, ◌<ℤ◌, [], pos, length, true};
 ghost use Rattle.std.specs.Prelude.{false, IfSome, IfNone, Some, None};
 ghost use Rattle.problem_core.specs.Corners.{HasNegativeColumn};
-ghost use Rattle.corner.specs.Views.{IsFrontOf, IsMarkOf, IsNamed};
+ghost use Rattle.corner.specs.Views.{IsFrontOf, IsLevelOf, IsMarkOf, IsNamed};
 ghost use Rattle.corner.specs.Changes.{HasNoNegative};
 ghost use Rattle.corner_ends.specs.Columns.{IsNegative};
 ghost use Rattle.primal_run.specs.Entering.{IsChoice};
@@ -87,6 +87,19 @@ pub(crate) fn is_weaker(c: &Corner, a: RowName, b: RowName) -> bool
     }
 }
 
+// Whether the first level is stronger. Only of two stays are the places looked up.
+fn is_stronger(c: &Corner, a: Level, b: Level) -> bool
+    requires a { IsLevelOf c.now.problem a }
+    requires b { IsLevelOf c.now.problem b }
+{
+    match (a, b) {
+        (Level::Priority(x), Level::Priority(y)) => x > y,
+        (Level::Stay(_), Level::Stay(_)) => c.is_stronger(a, b),
+        (Level::Priority(_), Level::Stay(_)) => true,
+        (Level::Stay(_), Level::Priority(_)) => false,
+    }
+}
+
 // Whether the first one enters before the other: the stronger level first, there the lower reduced cost, and
 // of equal ones the weaker line.
 fn enters_before(c: &Corner, a: Choice, b: Choice) -> bool
@@ -97,7 +110,7 @@ fn enters_before(c: &Corner, a: Choice, b: Choice) -> bool
         a.front.reduced < b.front.reduced
             || a.front.reduced == b.front.reduced && is_weaker(c, a.mark.row, b.mark.row)
     } else {
-        c.is_stronger(a.front.level, b.front.level)
+        is_stronger(c, a.front.level, b.front.level)
     }
 }
 

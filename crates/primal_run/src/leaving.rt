@@ -7,7 +7,7 @@ ghost use Rattle.problem_core.specs.declared.stops.What.TheVariants.{Mark as Mar
 ghost use Rattle.corner_laws.specs.Runs.{IsFirstToLeave};
 ghost use Rattle.corner.specs.Views.{IsOutside, MovesWith};
 ghost use Rattle.corner_ends.specs.Trails.{IsTrailOf};
-ghost use Rattle.primal_run.specs.Deciding.{FromFirst};
+ghost use Rattle.primal_run.specs.Deciding.{FromTies};
 ghost use Rattle.primal_run.specs.Entering.{MayEnter};
 ghost use Rattle.primal_run.specs.Leaving.{IsNextFirst, IsRatioOrNone};
 
@@ -29,8 +29,8 @@ fn next_first(
     requires moves { MovesWith c.now.problem c.now.marks enter what }
     requires found { IsRatioOrNone c.now.problem c.now.marks (corners.place enter) found }
     ensures ratio { IsRatioOrNone c.now.problem c.now.marks (corners.place enter) result }
-    ensures first { FromFirst c.now trail.now (λ first.
-        IsNextFirst c.now.problem c.now.marks (corners.place enter) first what found result) }
+    ensures first { FromTies c.now trail.now (λ ties.
+        IsNextFirst c.now.problem c.now.marks (corners.place enter) ties what found result) }
 {
     c.show_corner(); // for the proof: what a corner keeps
     let What::Mark(m) = what else {
@@ -51,8 +51,8 @@ pub(crate) fn leaving(c: &Corner, trail: &Trail, enter: Mark) -> Mark
     requires enter { MayEnter c.now.problem c.now.marks enter }
     ensures inside { IsIn (corners.place result) c.now.marks }
     ensures moves { MovesWith c.now.problem c.now.marks enter (MarkOf result) }
-    ensures first { FromFirst c.now trail.now (λ first.
-        IsFirstToLeave c.now.problem first c.now.marks (record { enter = enter; leave = result })) }
+    ensures first { FromTies c.now trail.now (λ ties.
+        IsFirstToLeave c.now.problem ties c.now.marks (record { enter = enter; leave = result })) }
 {
     c.show_corner(); // for the proof: what a corner keeps
     let count = c.movers(enter);

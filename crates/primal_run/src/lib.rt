@@ -22,7 +22,8 @@
 //!
 //! What holds before each exchange (`IsTrailOf`): the first corner had no negative value, and in each
 //! exchange so far that mark left which was the first to come to 0, where the marks of the first corner
-//! decide between equal ones. By that rule no corner comes twice. Any mark with a negative column may enter,
+//! decide between equal ones, those of stays behind all others and the weakest of them first
+//! (`in_tie_order`). By that rule no corner comes twice. Any mark with a negative column may enter,
 //! and no clause says which of several does. The code takes one of the strongest level, there of the lowest
 //! reduced cost, and of equal ones that of the weakest line: what a stronger line asks for need not be put
 //! right again then.

@@ -1,11 +1,6 @@
 // An exchange of a run.
 ghost use Rattle.std.specs.Prelude.{◌≡◌, ◌<◌, ◌+◌, List, length, false, IfOk, IfErr};
-ghost use Rattle.problem_core.specs.Corners as corners;
-ghost use Rattle.problem_core.specs.Corners.{IsIn};
 ghost use Rattle.problem_core.specs.declared.parts.Mark.{Mark as MarkOfLine};
-ghost use Rattle.problem_core.specs.declared.stops.What.TheVariants.{Mark as MarkOf};
-ghost use Rattle.corner_laws.specs.Runs.{IsFirstToLeave};
-ghost use Rattle.corner.specs.Views.{MovesWith};
 ghost use Rattle.corner_ends.specs.Trails.{IsTrailOf, IsTrailStop, StaysTrail};
 ghost use Rattle.primal_run.specs.Entering.{MayEnter};
 

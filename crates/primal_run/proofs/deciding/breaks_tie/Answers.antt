@@ -1,5 +1,4 @@
-use Rattle.std.proofs.Common.{◌≡◌, subst, Some, IfSome}
-use Rattle.std.specs.Prelude.{None}
+use Rattle.std.proofs.Common.{subst, IfSome}
 use Rattle.std.specs.declared.option.Option.{Option}
 use Rattle.problem_core.specs.declared.parts.Mark.{Mark}
 use Rattle.problem_core.specs.Corners.{place}

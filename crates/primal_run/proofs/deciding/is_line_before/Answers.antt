@@ -1,7 +1,7 @@
 use Rattle.std.proofs.Common.{◌+◌, arith, subst}
 use Rattle.corner.specs.Views.{IsNamed}
 use Rattle.primal_run.specs.Deciding.{stays_before}
-use Rattle.primal_run.proofs.Deciders.{level_there, row_first, stay_before, stay_not_before}
+use Rattle.primal_run.proofs.TieKeys.{level_there, row_first, stay_before, stay_not_before}
 use Rattle.primal_run.proofs.deciding.is_line_before.Goals as goal
 
 pub is_stronger-requires-clause-a : goal.is_stronger-requires-clause-a

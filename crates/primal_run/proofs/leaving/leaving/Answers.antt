@@ -5,6 +5,7 @@ use Rattle.std.proofs.lemmas.List.{take_all}
 use Rattle.problem_core.specs.declared.stops.What.{What}
 use Rattle.problem_core.specs.Corners.{place}
 use Rattle.corner.specs.Views.{MovesWith}
+use Rattle.corner_ends.specs.Trails.{in_tie_order}
 use Rattle.primal_run.specs.Leaving.{IsFirstOf, IsRatioOrNone}
 use Rattle.primal_run.specs.declared.ties.Ratio.{Ratio}
 use Rattle.primal_run.proofs.Leaves.{first_leaves, moves_with, none_leaves, took_next}
@@ -27,7 +28,7 @@ pub loop-i-preserved : goal.loop-i-preserved
 loop-i-preserved c = record {
   ratio = c.next_first-found.ensures.ratio;
   first = λ first run whats are.
-      subst (λ (xs : List What). IsFirstOf c.args.c.now.problem c.args.c.now.marks (place c.args.enter) first xs c.next_first-found.result) (took_next whats c.loop-i.i c.mover.result (c.mover.ensures whats are))
+      subst (λ (xs : List What). IsFirstOf c.args.c.now.problem c.args.c.now.marks (place c.args.enter) (in_tie_order first) xs c.next_first-found.result) (took_next whats c.loop-i.i c.mover.result (c.mover.ensures whats are))
       (c.next_first-found.ensures.first first run (take c.loop-i.i whats) (c.loop-i.invariant.first first run whats are));
 }
 
@@ -38,9 +39,9 @@ unreachable-requires c =
     let m = c.movers-count.ensures in
     let same = m.2 in
     let over = c.loop-i-test.false in
-    none_leaves c.args.c.now c.args.enter first m.0 c.show_corner.ensures.kept c.requires.enter m.1
-    (subst (λ (xs : List What). IsFirstOf c.args.c.now.problem c.args.c.now.marks (place c.args.enter) first xs None) (take_all c.loop-i.i m.0 (omega (arith, same, over)))
-    (subst (λ (f : Option Ratio). IsFirstOf c.args.c.now.problem c.args.c.now.marks (place c.args.enter) first (take c.loop-i.i m.0) f) c.in-None.is (c.loop-i.invariant.first first run m.0 m.1)))
+    none_leaves c.args.c.now c.args.enter (in_tie_order first) m.0 c.show_corner.ensures.kept c.requires.enter m.1
+    (subst (λ (xs : List What). IsFirstOf c.args.c.now.problem c.args.c.now.marks (place c.args.enter) (in_tie_order first) xs None) (take_all c.loop-i.i m.0 (omega (arith, same, over)))
+    (subst (λ (f : Option Ratio). IsFirstOf c.args.c.now.problem c.args.c.now.marks (place c.args.enter) (in_tie_order first) (take c.loop-i.i m.0) f) c.in-None.is (c.loop-i.invariant.first first run m.0 m.1)))
 
 pub returns-clause-moves : goal.returns-clause-moves
 returns-clause-moves c =
@@ -52,6 +53,6 @@ returns-clause-first c = λ first run.
     let m = c.movers-count.ensures in
     let same = m.2 in
     let over = c.loop-i-test.false in
-    first_leaves c.args.c.now c.args.enter first m.0 c.in-Some.ratio c.show_corner.ensures.kept m.1
-    (subst (λ (xs : List What). IsFirstOf c.args.c.now.problem c.args.c.now.marks (place c.args.enter) first xs (Some c.in-Some.ratio)) (take_all c.loop-i.i m.0 (omega (arith, same, over)))
-    (subst (λ (f : Option Ratio). IsFirstOf c.args.c.now.problem c.args.c.now.marks (place c.args.enter) first (take c.loop-i.i m.0) f) c.in-Some.is (c.loop-i.invariant.first first run m.0 m.1)))
+    first_leaves c.args.c.now c.args.enter (in_tie_order first) m.0 c.in-Some.ratio c.show_corner.ensures.kept m.1
+    (subst (λ (xs : List What). IsFirstOf c.args.c.now.problem c.args.c.now.marks (place c.args.enter) (in_tie_order first) xs (Some c.in-Some.ratio)) (take_all c.loop-i.i m.0 (omega (arith, same, over)))
+    (subst (λ (f : Option Ratio). IsFirstOf c.args.c.now.problem c.args.c.now.marks (place c.args.enter) (in_tie_order first) (take c.loop-i.i m.0) f) c.in-Some.is (c.loop-i.invariant.first first run m.0 m.1)))

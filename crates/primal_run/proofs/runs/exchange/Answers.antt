@@ -25,7 +25,7 @@ returns-in-Err-Refused-clause-stop c = λ first trail budget short.
     let next : List Mark = exchanged s c.args.c.now.marks in
     let same : c.swap.new.self ≡ c.args.c.now = search rules in
     let told : IsTrailOf false c.args.c.now.problem first c.args.trail.now c.args.c.now.marks → HasRun false c.args.c.now.problem first (c.args.trail.now.swaps ++ s ∷ []) next → IsUnfitStop c.args.c.now.problem next (Refused c.in-Err-Refused.quantity) → (most : ℕ) → length c.args.trail.now.swaps < most → IsStopOf false c.args.c.now.problem c.args.c.now.problem.rows (FromHere first) most c.unfit.result =
-    subst (λ (v : CornerView). IsTrailOf false v.problem first c.args.trail.now v.marks → HasRun false v.problem first (c.args.trail.now.swaps ++ s ∷ []) next → IsUnfitStop v.problem next (Refused c.in-Err-Refused.quantity) → (most : ℕ) → length c.args.trail.now.swaps < most → IsStopOf false v.problem v.problem.rows (FromHere first) most c.unfit.result) same (c.unfit.ensures false first next) in
+    subst (λ (v : CornerView). IsTrailOf false v.problem first c.args.trail.now v.marks → HasRun false v.problem first (c.args.trail.now.swaps ++ s ∷ []) next → IsUnfitStop v.problem next (Refused c.in-Err-Refused.quantity) → (most : ℕ) → length c.args.trail.now.swaps < most → IsStopOf false v.problem v.problem.rows (FromHere first) most c.unfit.result) same (c.unfit.ensures.after false first next) in
     told trail
     (swap_more c.args.c.now.problem first c.args.c.now.marks next c.args.trail.now.swaps s trail.swapped c.requires.enter c.leaving-leave.ensures.inside (c.leaving-leave.ensures.first first trail) (same_self next))
     (search rules)
