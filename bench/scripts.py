@@ -10,6 +10,10 @@
     python3 bench/scripts.py drag TIMES           the login form, then so many suggestions of one width, and its release
     python3 bench/scripts.py changes SEED VIEWS   the script of `made` without the `undo` at its end
     python3 bench/scripts.py metric VIEWS TIMES   a chain, two rows that name a metric, and then so many values of it in turn
+    python3 bench/scripts.py widths WHAT          the login form in version 2, and behind it nothing (`none`), a sweep of its widths
+                                                  from 320 to 2000 (`sweep`), or a window of each of these (`windows`)
+    python3 bench/scripts.py bends VIEWS WHAT     a row of views with preferred widths, and behind it nothing (`none`), or a sweep
+                                                  of its widths from 0 to 100 times as many as there are views (`sweep`)
 
 A chain has for each view a format with an optional width, for each two neighbours a format that stacks them and an optional
 constraint between their widths. Its numbers come from a linear congruence, so that the same words give the same script.
@@ -102,6 +106,28 @@ def metric(views, times):
     yield "frames"
 
 
+def widths(what):
+    yield "layout 2"
+    yield from resize(0, [])
+    if what == "sweep":
+        yield "sweep width 320 2000"
+    if what == "windows":
+        for width in range(320, 2001):
+            yield f"window {width} 480"
+
+
+def bends(views, what):
+    draw = draws(1)
+    yield "layout 2"
+    yield f"window {40 * views} 600"
+    for i in range(1, views + 1):
+        yield f"view v{i}"
+    row = "-4-".join(f"[v{i}(>={5 + draw(11)},{20 + draw(41)}@{100 + draw(801)})]" for i in range(1, views + 1))
+    yield f"vfl r H:|-0-{row}-(>=0)-|"
+    if what == "sweep":
+        yield f"sweep width 0 {100 * views}"
+
+
 def main(words):
     match words:
         case ["chain", seed, views]:
@@ -122,6 +148,10 @@ def main(words):
             lines = drag(int(times))
         case ["metric", views, times]:
             lines = metric(int(views), int(times))
+        case ["widths", ("none" | "sweep" | "windows") as what]:
+            lines = widths(what)
+        case ["bends", views, ("none" | "sweep") as what]:
+            lines = bends(int(views), what)
         case _:
             sys.exit(__doc__)
     sys.stdout.writelines(line + "\n" for line in lines)

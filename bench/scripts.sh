@@ -51,3 +51,9 @@ measure "66 views, no metric again" metric 66 0
 measure "66 views, 1,000 values of a metric" metric 66 1000
 measure "login form, 10,000 windows" resize 10000
 measure "login form, 10,000 windows with frames" frames 10000
+for what in none sweep windows; do
+    measure "login form, its widths: $what" widths "$what"
+done
+for what in none sweep; do
+    measure "a row of 40 views with preferred widths: $what" bends 40 "$what"
+done
