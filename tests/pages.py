@@ -18,7 +18,7 @@ PROGRAM = os.path.abspath((sys.argv[1:] or [f"{TOP}/crates/layout/out/layout"])[
 PAGES = ["README.md", "docs/GUIDE.md", "docs/LANGUAGE.md"]
 SCREENS = {"## 3. ": "Settings", "## 4. ": "Dialog"}
 WORDS = """layout view tree drop metric window vfl constrain remove suggest release direction size unsize keep undo budget
-frames rows diagnose certify why ?""".split()
+frames rows diagnose certify why sweep ?""".split()
 HOSTED = re.compile(r"[A-Za-z_]\w*: ")
 
 

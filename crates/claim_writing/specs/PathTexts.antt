@@ -119,6 +119,10 @@ path_text p = text_of_lines (path_lines p)
 abbrev pub unfit_text : declared_quantity.Quantity → List ℕ
 unfit_text q = unfit_line q ++ newline ∷ []
 
+-- `unfit breakpoint MARK`, ended as a line
+abbrev pub breakpoint_text : Mark → List ℕ
+breakpoint_text m = codes "unfit breakpoint " ++ (mark_text m ++ newline ∷ [])
+
 -- the path, and what doesn't fit at its last corner
 abbrev pub unfit_path_text : UnfitPath → List ℕ
 unfit_path_text at = path_text at.path ++ unfit_text at.quantity

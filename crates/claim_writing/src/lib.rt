@@ -34,7 +34,7 @@
 mod claim;
 mod problem;
 
-pub use claim::path_writer::{path_text, unfit_text};
+pub use claim::path_writer::{breakpoint_text, path_text, quantity_text, unfit_text};
 pub use claim::writer::{best_text, bys_text, cert_text, conflict_text, values_text};
 pub use claim::{Claim, LevelLine};
 pub use problem::writer::{problem_text, rows_text};

@@ -34,6 +34,9 @@ pub enum KindWord {
     /// A tree of views is of another shape.
     #[error("the tree of views is of another shape")]
     Tree,
+    /// A sweep goes backwards, or the window has no size.
+    #[error("the sweep goes backwards, or the window has no size")]
+    Sweep,
 }
 
 /// A part of a row's constant isn't below [`CONSTANT_LIMIT`](crate::CONSTANT_LIMIT) in size after some term.

@@ -1,6 +1,7 @@
 pub mod FirstBlocks
 pub mod FirstFits
 pub mod SteepUnfit
+pub mod Sweeps
 pub mod LoneFits
 pub mod Drafts
 pub mod Resolved

@@ -153,6 +153,7 @@ module _ (old : State) (E : Scene → Reply → State → Type 0) (r : Reply) (s
   resolved (mean.Keep name) Other is h = res-keep name h
   resolved mean.Nothing Other is h = absurd is
   resolved mean.Undo Other is h = absurd is
+  resolved (mean.Sweep from to) Other is h = absurd is
   resolved (mean.Budget exchanges) Other is h = absurd is
   resolved mean.Frames Other is h = absurd is
   resolved mean.Rows Other is h = absurd is

@@ -10,7 +10,7 @@ use Rattle.script_text.specs.Meaning.{Meaning}
 use Rattle.script_text.specs.Meaning as mean
 use Rattle.session_undo.specs.declared.limits.TheConstants.{BUDGET_LIMIT}
 use Rattle.session_undo.specs.Adding.{NoEnd, NoOther}
-use Rattle.session_undo.specs.Machine.{Finds, LeftSpends, MeaningStep, Poses, ProbeSpends}
+use Rattle.session_undo.specs.Machine.{Finds, LeftSpends, MeaningStep, Poses, ProbeSpends, TellsSweep}
 use Rattle.scenes.specs.Steps.{IsProblemOf}
 use Rattle.session_undo.specs.Machine.{Spends, Tried}
 use Rattle.session_undo.specs.Explaining.{WhyStep}
@@ -21,6 +21,7 @@ use Rattle.session_undo.specs.State.{IsFirst, State}
 use Rattle.completeness.specs.Examples.{steep}
 use Rattle.completeness.specs.Bounds.{AreBounds}
 use Rattle.completeness.specs.Room.{HasRoomToExplain, HasRoomToLeave, HasRoomToProbe, HasRoomToStep}
+use Rattle.completeness.specs.Room.{HasRoomToSweep}
 use Rattle.completeness.specs.Room.{IsLarge, IsProbed}
 use Rattle.completeness.specs.Room.{probe_problem}
 use Rattle.completeness.specs.States.{bounded_state, held_state}
@@ -97,6 +98,12 @@ QuestionsAreAnswered = (old : State) (m : Meaning) (reply : Reply) (new : State)
 abbrev pub ProbesAreAnswered : Type 0
 ProbesAreAnswered = (old : State) (reply : Reply) (new : State) → HasRoomToProbe old
     → MeaningStep old mean.Diagnose reply new → Finds old reply new
+
+-- with room for it a sweep's stretches are told, unless a cause is against it
+abbrev pub SweepsAreAnswered : Type 0
+SweepsAreAnswered = (old : State) (from to : Fraction) (reply : Reply) (new : State)
+    → HasRoomToSweep old from to → MeaningStep old (mean.Sweep from to) reply new
+    → IsRefused old (mean.Sweep from to) reply new ⊎ TellsSweep old from to reply new
 
 -- a blank line or a comment, a question other than `diagnose`, `undo` with an earlier scene, a budget within
 -- its limits

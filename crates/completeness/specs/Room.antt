@@ -13,7 +13,9 @@ use Rattle.script_text.specs.Meaning.{Meaning}
 use Rattle.script_text.specs.Meaning as mean
 use Rattle.scenes.specs.Leaving.{stood_of}
 use Rattle.scenes.specs.Scene.{Scene, problem_of}
+use Rattle.scenes.specs.Sweeping.{IsWidthRow, problem_here}
 use Rattle.session_undo.specs.State.{State}
+use Rattle.sweep_param.specs.Laws as sweeps
 
 -- the problem is one that the types can hold, and the budget is at least 4^N, where N counts rows and stays
 pub record IsLarge (budget : ℕ) (p : Problem) : Type 0 where
@@ -87,3 +89,14 @@ pub record HasRoomToProbe (old : State) : Type 0 where
   pub wishes : (attr : ℕ) (up : Bool) → HasStay old.scene.stays attr → LacksWish old.scene attr up → ⊥
   pub rooms : (attr : ℕ) (f : Fraction) → IsProbed old.scene attr f
       → HasRoom old.scene.rows old.budget (probe_problem old.scene attr f)
+
+-- ---- sweeps
+
+-- the widths are in lowest terms and fit, the problem with the present one is one that the types can hold, and
+-- there is room to sweep the row of the width
+pub record HasRoomToSweep (old : State) (from to : Fraction) : Type 0 where
+  pub from_kept : IsKept from
+  pub to_kept : IsKept to
+  pub whole : IsWhole (problem_here old.scene)
+  pub rooms : (row : ℕ) → IsWidthRow old.scene row
+      → sweeps.HasRoomToSweep (problem_here old.scene) row from to old.budget

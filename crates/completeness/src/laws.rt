@@ -10,7 +10,7 @@ ghost use Rattle.completeness.specs.Laws.{BoundRemovalsHaveRoom, BoundsFit, Chan
 ghost use Rattle.completeness.specs.Laws.{FirstMetricsAreAccepted, FirstSceneFits};
 ghost use Rattle.completeness.specs.Laws.{LargeBudgetsAreNeverSpent, OthersAreAccepted, ProbesAreAnswered};
 ghost use Rattle.completeness.specs.Laws.{MiddleRemovalHasRoom, QuestionsAreAnswered, RemovalHasRoom};
-ghost use Rattle.completeness.specs.Laws.{SteepDoesNotFit};
+ghost use Rattle.completeness.specs.Laws.{SteepDoesNotFit, SweepsAreAnswered};
 
 /// Where there is room for the problem of a command that makes a change, a cause is against it, or it is
 /// accepted where the required rows have a solution, and refused for their conflict where they have none.
@@ -23,6 +23,13 @@ pub fn changes_are_answered()
 pub fn probes_are_answered()
     ensures { ProbesAreAnswered }
 {}
+
+/// Where there is room for it, a sweep's stretches are told, unless a cause is against it.
+pub fn sweeps_are_answered()
+    ensures { SweepsAreAnswered }
+{
+    sweep_param::sweeps_are_answered();
+}
 
 /// Where there is room for each trial, why a command would clash is told, unless a cause is against it.
 pub fn questions_are_answered()

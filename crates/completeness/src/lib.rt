@@ -24,5 +24,5 @@ pub use laws::{
     bound_removals_have_room, bounds_fit, changes_are_answered, first_metrics_are_accepted,
     first_scene_fits, large_budgets_are_never_spent, others_are_accepted, probes_are_answered,
     questions_are_answered, some_probes_have_room, some_removals_have_room,
-    steep_problem_does_not_fit,
+    steep_problem_does_not_fit, sweeps_are_answered,
 };

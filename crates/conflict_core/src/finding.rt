@@ -56,7 +56,9 @@ fn found_anew(alloc: Global, t: &Trials, all: &[u32]) -> Result<Found, CoreStop>
     ensures stop { IfErr result (IsCoreStop t.now.problem.now t.now.budget) }
 {
     let mut engine = Engine::new(alloc)?;
-    found_of(alloc, &mut engine, t, all)
+    let found = found_of(alloc, &mut engine, t, all);
+    drop(engine); // for the proof: moved on, not taken apart here
+    found
 }
 
 // A core of the rows that these multipliers name, on a new engine.
@@ -67,7 +69,9 @@ fn found_anew_among(alloc: Global, t: &Trials, by: Conflict) -> Result<Found, Co
     ensures stop { IfErr result (IsCoreStop t.now.problem.now t.now.budget) }
 {
     let mut engine = Engine::new(alloc)?;
-    found_among(alloc, &mut engine, t, by)
+    let found = found_among(alloc, &mut engine, t, by);
+    drop(engine); // for the proof: moved on, not taken apart here
+    found
 }
 
 /// Whether the required rows have a solution, and if they have none, a core of them: rows that clash, each of

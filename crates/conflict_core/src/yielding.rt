@@ -320,7 +320,9 @@ fn give_way_anew(
     ensures search { IfOk result (λ _. IsSearch t.now.problem.now s.new) }
 {
     let mut engine = Engine::new(alloc)?;
-    give_way_from(alloc, &mut engine, t, s, clash, first)
+    let given = give_way_from(alloc, &mut engine, t, s, clash, first);
+    drop(engine); // for the proof: moved on, not taken apart here
+    given
 }
 
 // The rows give way in turn, as far as numbers fit and that comes to an end.

@@ -1,12 +1,12 @@
 // Stays that are put before all others.
-ghost use Rattle.std.specs.Prelude.{◌≡◌, ◌≢◌, ◌<◌, ◌≤◌, ◌+◌, ◌^◌, length, map, All, AllPairs, IfOk, OnOk};
+ghost use Rattle.std.specs.Prelude.{◌≡◌, ◌≢◌, ◌<◌, ◌≤◌, ◌+◌, length, map, All, AllPairs, IfOk, OnOk};
 ghost use Rattle.problem_core.specs.Layout.{HasStay};
 ghost use Rattle.problem_core.specs.declared.parts.RowName.TheVariants.{Stay as StayOf};
 ghost use Rattle.corner_table.specs.Histories.{HasSameHistory};
 ghost use Rattle.corner_table.specs.Kept.{AreSlots, AreStored, IsKept};
 ghost use Rattle.corner_table.specs.Tables as tables;
 ghost use Rattle.corner_table.specs.Tables.{lists_of};
-ghost use Rattle.corner_table.specs.declared.table.TheConstants.{LEVELS};
+ghost use Rattle.corner_table.specs.declared.table.TheConstants.{LEVELS, OWN_RANK};
 ghost use Rattle.corner.specs.Fronted.{AreFronted, AreListedOf, with_order, with_rank, with_ranks};
 ghost use Rattle.stay_orders.specs.Orders.{with_front};
 
@@ -55,7 +55,7 @@ fn put_rank(table: &mut Table, w: u32, rank: u64) -> Result<(), OutOfMemory>
 // Gives the slots ranks one by one, from that behind the priority levels on.
 fn put_ranks(table: &mut Table, slots: &[u32]) -> Result<(), OutOfMemory>
     requires within { All (λ w. w < length table.old.slots.items) slots.now }
-    requires room { LEVELS + length slots.now ≤ 2 ^ 32 }
+    requires room { LEVELS + length slots.now ≤ OWN_RANK }
     ensures past { HasSameHistory table.old table.new }
     ensures lists { OnOk result (lists_of table.new ≡ with_ranks LEVELS slots.now (lists_of table.old)) }
 {

@@ -8,5 +8,7 @@ pub mod RunEnds
 pub mod SharedTimes
 pub mod ShownTimes
 pub mod RequiredTimes
+pub mod SeenConflicts
 pub mod FirstMarks
+pub mod TieOrders
 pub mod Trails

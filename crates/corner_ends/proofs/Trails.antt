@@ -10,7 +10,7 @@ use Rattle.problem_core.specs.Corners.{IsIn, SameMarks, Swap, exchanged, place}
 use Rattle.problem_core.specs.Changes.Paths.{ArePathSwaps, IsEndOf, IsPath, IsSound, last_marks}
 use Rattle.corner_laws.specs.Runs.{AreDualSwaps, AreRunSwaps}
 use Rattle.corner_laws.proofs.RunSteps.DualRuns.{dual_run_is_path}
-use Rattle.corner_laws.proofs.RunSteps.RunPaths.{contains_in, run_is_path, same_stands}
+use Rattle.corner_laws.proofs.RunSteps.RunPaths.{contains_in, same_stands}
 use Rattle.corner_laws.proofs.WrittenValues.{contains_each}
 use Rattle.corner.specs.Views.{IsKeptCorner}
 use Rattle.corner.specs.Changes.{IsUnfitStop}
@@ -19,9 +19,10 @@ use Rattle.cert_core.specs.declared.stops.RunStop.TheVariants.{Spent, Unfit}
 use Rattle.cert_core.specs.Paths.{Path}
 use Rattle.corner_ends.specs.Begins.{AreExchanges, HasExchanged}
 use Rattle.corner_ends.specs.Runs.{FromHere}
-use Rattle.corner_ends.specs.Trails.{AreSwapsOf, HasRun}
+use Rattle.corner_ends.specs.Trails.{AreSwapsOf, HasRun, in_tie_order}
 use Rattle.corner_ends.proofs.MarkOrders.{last_same, same_self, unfit_same}
 use Rattle.corner_ends.proofs.RunEnds.{spent_path}
+use Rattle.corner_ends.proofs.TieOrders.{tied_is_path}
 use Rattle.problem_core.proofs.Marks.{same-back as same_back, same-multipliers as same_multipliers}
 use Rattle.corner_joins.proofs.Additions.RowPaths.{same_trans as same_through}
 use Rattle.corner_lines.proofs.LevelRows.SameLevels.{sound_same as sound-same}
@@ -35,11 +36,22 @@ none-yet false p at = tt
 pub run_begins : (dual : Bool) (p : Problem) (at : List Mark) → IsKeptCorner p at → IsSound dual p at → HasRun dual p at [] at
 run_begins dual p at kept sound = record { whole = kept.whole; corner = kept.corner; rays = kept.rays; sound = sound; swapped = none-yet dual p at; here = same_self at }
 
+-- ---- an end
+
+same-end : (dual : Bool) (p : Problem) (a b : List Mark) → SameMarks a b → IsEndOf dual p b → IsEndOf dual p a
+same-end true p a b same (inl (x, stands, up)) = inl (x, same_stands p a b x (λ v i. contains_in b a v same.1 i) stands, λ i d within. up-at _ (same.0 i d within))
+  where
+    up-at : (v : ℕ) → IsIn v b → pos 0 ≤ℤ x.num v
+    up-at v i = contains_each (λ c. pos 0 ≤ℤ x.num c) b v (recursion_from_All (λ m. pos 0 ≤ℤ x.num (place m)) b up) i
+same-end true p a b same (inr (x, stands, cost)) = inr (x, same_stands p a b x (λ v i. contains_in b a v same.1 i) stands, cost)
+same-end false p a b same (inl (m, is, up)) = inl (m, same_multipliers p a b m (λ v i. contains_in a b v same.0 i) is, up)
+same-end false p a b same (inr ((x, stands, cost), (m, is, up))) = inr ((x, same_stands p a b x (λ v i. contains_in b a v same.1 i) stands, cost), (m, same_multipliers p a b m (λ v i. contains_in a b v same.0 i) is, up))
+
 -- ---- its path
 
 pub run_lawful : (dual : Bool) (p : Problem) (first at : List Mark) (swaps : List Swap) → HasRun dual p first swaps at → IsPath dual p first swaps
 run_lawful true p first at swaps run = dual_run_is_path p first swaps run.whole run.corner run.rays run.sound run.swapped
-run_lawful false p first at swaps run = run_is_path p first swaps run.whole run.corner run.rays run.sound run.swapped
+run_lawful false p first at swaps run = tied_is_path p first swaps run.whole run.corner run.rays run.sound (same-end false p) run.swapped
 
 -- what holds at the first corner holds at the last one
 ends-up : (dual : Bool) (p : Problem) (at : List Mark) (swaps : List Swap) → ArePathSwaps dual p at swaps → IsSound dual p (last_marks at swaps)
@@ -61,21 +73,12 @@ are-dual-exchanges p at (s ∷ swaps) h = (h.0.enters, h.0.leaves, are-dual-exch
 
 are-exchanges : (dual : Bool) (p : Problem) (first : List Mark) (swaps : List Swap) → AreSwapsOf dual p first swaps → AreExchanges first swaps
 are-exchanges true p first swaps h = are-dual-exchanges p first swaps h
-are-exchanges false p first swaps h = are-run-exchanges p first first swaps h
+are-exchanges false p first swaps h = are-run-exchanges p (in_tie_order first) first swaps h
 
 pub run_exchanges : (dual : Bool) (p : Problem) (first at : List Mark) (swaps : List Swap) → HasRun dual p first swaps at → HasExchanged first swaps at
 run_exchanges dual p first at swaps run = record { swapped = are-exchanges dual p first swaps run.swapped; here = run.here }
 
 -- ---- its stops
-
-same-end : (dual : Bool) (p : Problem) (a b : List Mark) → SameMarks a b → IsEndOf dual p b → IsEndOf dual p a
-same-end true p a b same (inl (x, stands, up)) = inl (x, same_stands p a b x (λ v i. contains_in b a v same.1 i) stands, λ i d within. up-at _ (same.0 i d within))
-  where
-    up-at : (v : ℕ) → IsIn v b → pos 0 ≤ℤ x.num v
-    up-at v i = contains_each (λ c. pos 0 ≤ℤ x.num c) b v (recursion_from_All (λ m. pos 0 ≤ℤ x.num (place m)) b up) i
-same-end true p a b same (inr (x, stands, cost)) = inr (x, same_stands p a b x (λ v i. contains_in b a v same.1 i) stands, cost)
-same-end false p a b same (inl (m, is, up)) = inl (m, same_multipliers p a b m (λ v i. contains_in a b v same.0 i) is, up)
-same-end false p a b same (inr ((x, stands, cost), (m, is, up))) = inr ((x, same_stands p a b x (λ v i. contains_in b a v same.1 i) stands, cost), (m, same_multipliers p a b m (λ v i. contains_in a b v same.0 i) is, up))
 
 pub spent_stop : (dual : Bool) (p : Problem) (first at : List Mark) (swaps : List Swap) (path : Path) → HasRun dual p first swaps at → (IsEndOf dual p at → ⊥) → path ≡ record { dual = dual; corner = first; swaps = swaps } → IsStopOf dual p p.rows (FromHere first) (length swaps) (Spent path)
 spent_stop dual p first at swaps path run no_end e =

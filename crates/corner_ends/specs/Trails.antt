@@ -2,6 +2,8 @@
 use Rattle.std.specs.Prelude.{◌≡◌, ◌<◌, ◌++◌, ◌∷◌, [], ℕ, Bool, true, false, List, length}
 use Rattle.frac_core.specs.declared.memory.Stop.TheVariants.{Refused}
 use Rattle.problem_core.specs.declared.parts.Mark.{Mark}
+use Rattle.problem_core.specs.declared.parts.RowName.{RowName}
+use Rattle.problem_core.specs.declared.parts.RowName.TheVariants.{Held, Stay as StayOf}
 use Rattle.problem_core.specs.declared.stops.Quantity.{Quantity}
 use Rattle.problem_core.specs.Layout.{Problem}
 use Rattle.problem_core.specs.Kept.{IsWhole}
@@ -12,6 +14,7 @@ use Rattle.corner_laws.specs.Runs.{AreDualSwaps, AreRunSwaps}
 use Rattle.cert_core.specs.Paths.{Path}
 use Rattle.cert_core.specs.Stops.{IsStopOf}
 use Rattle.cert_core.specs.declared.stops.RunStop.{RunStop}
+use Rattle.cert_core.specs.declared.stops.RunStop.TheVariants.{Conflict, Unfit, Spent, OutOfMemory}
 use Rattle.corner.specs.Changes.{IsUnfitStop}
 use Rattle.corner.specs.Views.{CornerView, in_order, is_mark}
 use Rattle.corner_ends.specs.Runs.{FromHere}
@@ -21,10 +24,21 @@ pub record Trail : Type 0 where
   pub dual : Bool
   pub swaps : List Swap
 
--- the exchanges of a dual run from these marks, or of a primal one
+-- the mark in front of these where it is of a row, and behind them where it is of a stay
+abbrev pub put_tied : RowName → Mark → List Mark → List Mark
+put_tied (Held id) m ms = m ∷ ms
+put_tied (StayOf attr) m ms = ms ++ m ∷ []
+
+-- the marks of rows as they stand, and behind them those of stays, last first
+abbrev pub in_tie_order : List Mark → List Mark
+in_tie_order [] = []
+in_tie_order (m ∷ ms) = put_tied m.row m (in_tie_order ms)
+
+-- the exchanges of a dual run from these marks, or of a primal one: of two marks that come to 0 together that
+-- one leaves which counts less at the first of these marks, in that order, at which they differ
 abbrev pub AreSwapsOf : Bool → Problem → List Mark → List Swap → Type 0
 AreSwapsOf true p first swaps = AreDualSwaps p first swaps
-AreSwapsOf false p first swaps = AreRunSwaps p first first swaps
+AreSwapsOf false p first swaps = AreRunSwaps p (in_tie_order first) first swaps
 
 -- the exchanges of a run lead to these marks, from a corner with the marks `first`, at which no column is
 -- negative if the run is dual, and else no value
@@ -77,6 +91,13 @@ abbrev pub IsTrailStop : Bool → CornerView → Trail → RunStop → Type 0
 IsTrailStop dual c trail stop = (first : List Mark) → IsTrailOf dual c.problem first trail c.marks
     → (budget : ℕ) → length trail.swaps < budget
     → IsStopOf dual c.problem c.problem.rows (FromHere first) budget stop
+
+-- the stop shows no conflict
+abbrev pub IsNoConflict : RunStop → Type 0
+IsNoConflict (Conflict by) = ⊥
+IsNoConflict (Unfit at) = Unit {0}
+IsNoConflict (Spent path) = Unit {0}
+IsNoConflict OutOfMemory = Unit {0}
 
 -- the run stops so where its exchanges are the budget's, and the corner is no end
 abbrev pub IsSpentStop : CornerView → Trail → RunStop → Type 0

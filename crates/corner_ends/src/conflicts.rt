@@ -1,12 +1,15 @@
 // The conflict that the multipliers of the required level show.
-ghost use Rattle.std.specs.Prelude.{◌≡◌, ◌≢◌, ◌⊎◌, ℕ, ◌<◌, ◌/◌, neg_ℤ, ◌*ℤ◌, pos, true, false, Any, All};
+ghost use Rattle.std.specs.Prelude.{◌≡◌, ◌≢◌, ◌⊎◌, ℕ, ◌<◌, ◌≤◌, ◌/◌, neg_ℤ, ◌*ℤ◌, pos, true, false, Any, All};
 ghost use Rattle.std.specs.Prelude.{IfOk, unsigned_abs};
 ghost use Rattle.std.specs.Int.{◌∣◌};
 ghost use Rattle.frac_core.specs.Fraction.{IsFitting};
 ghost use Rattle.frac_core.specs.declared.frac.TheConstants.{PART_BOUND};
+ghost use Rattle.problem_core.specs.Layout as layout;
+ghost use Rattle.problem_core.specs.declared.limits.TheConstants.{REQUIRED as required_rank};
 ghost use Rattle.problem_core.specs.Levels.{CostsAbove};
 ghost use Rattle.problem_core.specs.Changes.Paths.{NoNegativeRequired};
 ghost use Rattle.cert_core.specs.Stops.{IsShownConflict};
+ghost use Rattle.corner_lines.specs.Shifts.{AreSeenAlike};
 ghost use Rattle.corner_ends.specs.Shares.{AreLowestShares, ForRequiredTimes, HasNextShare, IsConflictStop};
 ghost use Rattle.corner_ends.specs.Shares.{IsDivisor, IsGreatest};
 
@@ -160,11 +163,15 @@ fn shares(alloc: Global, c: &Corner) -> Result<Vec<By>, OutOfMemory>
     Ok(out)
 }
 
-// The conflict that the multipliers of the required level show.
-fn conflict(alloc: Global, c: &Corner) -> Result<Conflict, OutOfMemory>
+/// The conflict that the multipliers of the required level show, here and with all other constants with which
+/// the required rows cost at this corner.
+pub fn conflict(alloc: Global, c: &Corner) -> Result<Conflict, OutOfMemory>
     requires above { CostsAbove c.now.problem c.now.marks 0 }
     requires columns { NoNegativeRequired c.now.problem c.now.marks }
-    ensures { IfOk result (IsShownConflict c.now.problem) }
+    ensures here { IfOk result (IsShownConflict c.now.problem) }
+    ensures elsewhere { IfOk result (λ by. (q : layout.Problem) → layout.IsProblem q
+        → All (λ r. r.rank ≤ required_rank) q.rows → AreSeenAlike c.now.problem q
+        → CostsAbove q c.now.marks 0 → IsShownConflict q by) }
 {
     c.show_corner(); // for the proof: what a corner keeps
     let by = shares(alloc, c)?;

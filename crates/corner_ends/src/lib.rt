@@ -36,7 +36,7 @@ mod numbers;
 mod trail;
 
 pub use begins::first_marks;
-pub use conflicts::conflict_stop;
+pub use conflicts::{conflict, conflict_stop};
 pub use costs::{is_above, is_below, is_costly, required_level};
 pub use numbers::{coefficient_of, product};
 pub use trail::Trail;

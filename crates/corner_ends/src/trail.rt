@@ -32,8 +32,8 @@ impl Model for Trail {
 }
 
 impl Trail {
-    ghost use Rattle.corner_ends.specs.Trails.{BeganWith, GoesOnBy, IsFirstCorner, IsPathBy, IsSpentStop};
-    ghost use Rattle.corner_ends.specs.Trails.{IsTrailOf, IsUnfitAfter};
+    ghost use Rattle.corner_ends.specs.Trails.{BeganWith, GoesOnBy, IsFirstCorner, IsNoConflict, IsPathBy};
+    ghost use Rattle.corner_ends.specs.Trails.{IsSpentStop, IsTrailOf, IsUnfitAfter};
 
     // The trail of these exchanges, which are none yet.
     fn begun(alloc: Global, dual: bool, c: &Corner, swaps: Vec<Swap>) -> Trail
@@ -104,8 +104,8 @@ impl Trail {
         was_inside(c, &self.swaps, mark)
     }
 
-    // The path so far.
-    fn path(&self, c: &Corner) -> Result<Path, OutOfMemory>
+    /// The path so far.
+    pub fn path(&self, c: &Corner) -> Result<Path, OutOfMemory>
         ensures { IfOk result (IsPathBy c.now self.now self.now.swaps) }
     {
         let marks = self.first_corner(c)?;
@@ -133,7 +133,8 @@ impl Trail {
 
     /// The stop where a quantity does not fit after one exchange more.
     pub fn unfit(&mut self, c: &Corner, swap: Swap, quantity: Quantity) -> RunStop
-        ensures { IsUnfitAfter c.now self.old swap quantity result }
+        ensures after { IsUnfitAfter c.now self.old swap quantity result }
+        ensures plain { IsNoConflict result }
     {
         match self.path_with(c, swap) {
             Ok(path) => RunStop::Unfit(UnfitPath { path, quantity }),

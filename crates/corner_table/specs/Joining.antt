@@ -50,7 +50,8 @@ with_level level t = record {
   rows = t.rows;
   stays = t.stays;
   slots = t.slots
-      ++ (record { owner = LevelSlot; home = level; rank = level; weight = pos 1; scale = pos 1; rel = Eq } ∷ []);
+      ++ (record { owner = LevelSlot; home = level; rank = level; weight = pos 1; scale = pos 1; rel = Eq }
+      ∷ []);
   standings = t.standings ++ (record { side = None; value = zero_fraction } ∷ []);
   matrix = t.matrix ++ ([] ∷ []);
   attr_slots = t.attr_slots;

@@ -70,7 +70,8 @@ IsStayOwner (LineSlot (StayOf attr)) = Unit {0}
 -- each attribute, stay and row has a slot, and each slot past the levels' is one of theirs or of nothing, and
 -- another slot may follow an attribute's; a level is stronger than another where its rank is lower: those of
 -- the priority levels are their numbers, and those of the stays' come in their order, behind them; no rank is
--- above the slot's own, and of two stays of which the first by slot has its own rank the other has a higher one
+-- above the slot's own, and of two stays of which the first by slot has its own rank the other has a higher
+-- one
 pub record AreSlots (t : Lists) : Type 0 where
   pub standings : length t.standings ≡ length t.slots
   pub matrix : length t.matrix ≡ length t.slots

@@ -36,8 +36,8 @@ pub enum Owner {
     Line(RowName),
 }
 
-/// What an exchange does not change of a slot. The home is the slot of a line's level, a stay's own. The rank,
-/// which only levels have, says which of two is stronger: the one of the lower rank. That of a priority level
+/// What an exchange does not change of a slot. The home is the slot of a line's level, a stay's own. The
+/// rank, which only levels have, says which of two is stronger: the one of the lower rank. That of a priority level
 /// is its number, and that of a stay's is its own, by its slot, until the stays come in another order. Only
 /// lines have the rest.
 #[derive(Clone, Copy, Debug, PartialEq, Eq)]

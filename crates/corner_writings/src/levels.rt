@@ -2,8 +2,8 @@
 pub(crate) mod fitting;
 pub(crate) mod growing;
 
-ghost use Rattle.std.specs.Prelude.{◌≡◌, ◌⊎◌, ◌*ℤ◌, ◌<◌, ◌≤◌, length, All, AllPairs, Contains, IfSome, IfNone};
-ghost use Rattle.std.specs.Prelude.{OnOk};
+ghost use Rattle.std.specs.Prelude.{◌≡◌, ◌⊎◌, ◌*ℤ◌, ◌<◌, ◌≤◌, length, All, AllPairs, Contains, IfSome};
+ghost use Rattle.std.specs.Prelude.{IfNone, OnOk};
 ghost use Rattle.std.specs.Prelude.{ℕ, [], None, Some, true, false, ◌↔◌};
 ghost use Rattle.frac_core.specs.Fraction.{IsFitting};
 ghost use Rattle.problem_core.specs.declared.parts.Level as level_type;
@@ -220,7 +220,8 @@ fn is_before(table: &Table, l: u32, found: Option<u32>) -> bool
     }
 }
 
-// Whether each level of a later slot is weaker: the slot is a priority level's, or a stay's with its own rank.
+// Whether each level of a later slot is weaker: the slot is a priority level's, or a stay's with its own
+// rank.
 fn ends_column(table: &Table, l: u32) -> bool
     requires { l < length table.now.slots.items }
     ensures yes { result ≡ true

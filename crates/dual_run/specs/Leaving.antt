@@ -1,5 +1,5 @@
 -- Which marks may leave, and the lines among which they are.
-use Rattle.std.specs.Prelude.{◌≡◌, ◌⊎◌, List, All, Contains, true}
+use Rattle.std.specs.Prelude.{◌≡◌, ◌⊎◌, ◌++◌, ◌∷◌, [], List, All, Contains, true}
 use Rattle.problem_core.specs.declared.parts.Mark.{Mark}
 use Rattle.problem_core.specs.declared.parts.RowName.{RowName}
 use Rattle.problem_core.specs.declared.parts.Side.{Side}
@@ -7,6 +7,7 @@ use Rattle.problem_core.specs.Layout.{Problem}
 use Rattle.problem_core.specs.Corners.{HasNegativeValue, IsIn, place}
 use Rattle.problem_core.specs.Changes.Paths.{IsEndOf}
 use Rattle.corner.specs.Views.{IsNamed}
+use Rattle.corner_ends.specs.Trails.{Trail}
 use Rattle.corner_writings.specs.Lows.{ListsLow}
 
 -- the mark is inside, and its value is negative
@@ -33,3 +34,8 @@ pub record AreLowLines (p : Problem) (at : List Mark) (names : List RowName) : T
 abbrev pub ListsSwapped : Problem → List Mark → RowName → RowName → List RowName → List RowName → Type 0
 ListsSwapped p at enter leave old new = ((enter ≡ leave) × (new ≡ old))
     ⊎ ((mid : List RowName) × ListsLow p at enter old mid × ListsLow p at leave mid new)
+
+-- the new trail has one exchange more, in which this mark left
+abbrev pub HasSwapped : Trail → Mark → Trail → Type 0
+HasSwapped old leave new = (enter : Mark)
+    × (new.swaps ≡ old.swaps ++ record { enter = enter; leave = leave } ∷ [])

@@ -52,10 +52,11 @@ fn standing(c: &Corner, row: RowName) -> Mark
     }
 }
 
-// The mark of the line whose value is negative.
-fn low_of(c: &Corner, row: RowName) -> Option<Mark>
+/// The mark of the line whose value is negative.
+pub fn low_of(c: &Corner, row: RowName) -> Option<Mark>
     requires { IsNamed c.now.problem row }
     ensures some { IfSome result (IsLow c.now.problem c.now.marks) }
+    ensures row { IfSome result (λ mark. mark.row ≡ row) }
     ensures none { IfNone result (HasNoLow c.now.problem c.now.marks row) }
 {
     let mark = standing(c, row);

@@ -44,5 +44,7 @@ mod restoring;
 mod runs;
 mod shifts;
 
+pub use leaving::low_of;
 pub use restoring::restore;
+pub use runs::exchange;
 pub use shifts::shift;

@@ -2,8 +2,8 @@
 ghost use Rattle.std.specs.Prelude.{◌≡◌, ◌<◌, ◌+◌, List, length, true, IfOk, IfErr};
 ghost use Rattle.problem_core.specs.Corners.{NoNegativeColumn};
 ghost use Rattle.problem_core.specs.declared.parts.Mark.{Mark as MarkOfLine};
-ghost use Rattle.corner_ends.specs.Trails.{IsTrailOf, IsTrailStop, StaysTrail};
-ghost use Rattle.dual_run.specs.Leaving.{AreLowLines, MayLeave};
+ghost use Rattle.corner_ends.specs.Trails.{IsNoConflict, IsTrailOf, IsTrailStop, StaysTrail};
+ghost use Rattle.dual_run.specs.Leaving.{AreLowLines, HasSwapped, MayLeave};
 
 use crate::entering::entering;
 use crate::leaving::list_swapped;
@@ -15,7 +15,7 @@ use problem_core::{Mark, RowName};
 
 /// Exchanges a mark that may leave for that with the least column over its number, and lists the lines
 /// whose values are negative after it.
-pub(crate) fn exchange(
+pub fn exchange(
     trail: &mut Trail,
     c: &mut Corner,
     leave: Mark,
@@ -30,8 +30,10 @@ pub(crate) fn exchange(
     ensures problem { IfOk result (λ _. c.new.problem ≡ c.old.problem) }
     ensures before { c.new.before ≡ c.old.before }
     ensures low { IfOk result (λ _. AreLowLines c.new.problem c.new.marks low.new.items) }
+    ensures swap { IfOk result (λ _. HasSwapped trail.old leave trail.new) }
     ensures more { IfOk result (λ _. length trail.new.swaps ≡ length trail.old.swaps + 1) }
     ensures stop { IfErr result (IsTrailStop true c.old trail.old) }
+    ensures plain { IfErr result IsNoConflict }
 {
     c.show_corner(); // for the proof: what a corner keeps
     let enter = entering(c, leave)?;

@@ -142,6 +142,7 @@ wrong views metrics axis align ps a kind.Window parent space ranks is = absurd i
 wrong views metrics axis align ps a kind.Suggested parent space ranks is = absurd is
 wrong views metrics axis align ps a kind.Sized parent space ranks is = absurd is
 wrong views metrics axis align ps a kind.Tree parent space ranks is = absurd is
+wrong views metrics axis align ps a kind.Sweep parent space ranks is = absurd is
 
 -- no row's number is past the last one
 pub below_limit : (first count i : ℕ) → (IsPastNumbers first count → ⊥) → i < count → first + i < 2 ^ 31

@@ -89,6 +89,7 @@ usable_right views metrics axis align ps kind.Window usable wrong = absurd wrong
 usable_right views metrics axis align ps kind.Suggested usable wrong = absurd wrong
 usable_right views metrics axis align ps kind.Sized usable wrong = absurd wrong
 usable_right views metrics axis align ps kind.Tree usable wrong = absurd wrong
+usable_right views metrics axis align ps kind.Sweep usable wrong = absurd wrong
 
 -- a format has one wrong use at most that is the first
 wrong_same : (views : List LiveView) (metrics : MetricList) (axis : Axis) (align : Option Align) (ps : List Part) (one other : KindWord) → IsWrongFormat views metrics axis align ps one → IsWrongFormat views metrics axis align ps other → one ≡ other
@@ -101,6 +102,7 @@ wrong_same views metrics axis align ps kind.Align kind.Window h k = absurd k
 wrong_same views metrics axis align ps kind.Align kind.Suggested h k = absurd k
 wrong_same views metrics axis align ps kind.Align kind.Sized h k = absurd k
 wrong_same views metrics axis align ps kind.Align kind.Tree h k = absurd k
+wrong_same views metrics axis align ps kind.Align kind.Sweep h k = absurd k
 wrong_same views metrics axis align ps kind.Parent kind.Align h k = absurd (clash (is_along axis align) k h.0)
 wrong_same views metrics axis align ps kind.Parent kind.Parent h k = refl
 wrong_same views metrics axis align ps kind.Parent kind.Object h k = absurd (clash (list_any (lacks_parent views) ps) h.1 k.1)
@@ -110,6 +112,7 @@ wrong_same views metrics axis align ps kind.Parent kind.Window h k = absurd k
 wrong_same views metrics axis align ps kind.Parent kind.Suggested h k = absurd k
 wrong_same views metrics axis align ps kind.Parent kind.Sized h k = absurd k
 wrong_same views metrics axis align ps kind.Parent kind.Tree h k = absurd k
+wrong_same views metrics axis align ps kind.Parent kind.Sweep h k = absurd k
 wrong_same views metrics axis align ps kind.Object kind.Align h k = absurd (clash (is_along axis align) k h.0)
 wrong_same views metrics axis align ps kind.Object kind.Parent h k = absurd (clash (list_any (lacks_parent views) ps) k.1 h.1)
 wrong_same views metrics axis align ps kind.Object kind.Object h k = refl
@@ -119,6 +122,7 @@ wrong_same views metrics axis align ps kind.Object kind.Window h k = absurd k
 wrong_same views metrics axis align ps kind.Object kind.Suggested h k = absurd k
 wrong_same views metrics axis align ps kind.Object kind.Sized h k = absurd k
 wrong_same views metrics axis align ps kind.Object kind.Tree h k = absurd k
+wrong_same views metrics axis align ps kind.Object kind.Sweep h k = absurd k
 wrong_same views metrics axis align ps kind.Priority kind.Align h k = absurd (clash (is_along axis align) k h.0)
 wrong_same views metrics axis align ps kind.Priority kind.Parent h k = absurd (clash (list_any (lacks_parent views) ps) k.1 h.1)
 wrong_same views metrics axis align ps kind.Priority kind.Object h k = absurd (clash (list_any (has_view_space views) ps) k.2 h.2)
@@ -128,11 +132,13 @@ wrong_same views metrics axis align ps kind.Priority kind.Window h k = absurd k
 wrong_same views metrics axis align ps kind.Priority kind.Suggested h k = absurd k
 wrong_same views metrics axis align ps kind.Priority kind.Sized h k = absurd k
 wrong_same views metrics axis align ps kind.Priority kind.Tree h k = absurd k
+wrong_same views metrics axis align ps kind.Priority kind.Sweep h k = absurd k
 wrong_same views metrics axis align ps kind.Weight other h k = absurd h
 wrong_same views metrics axis align ps kind.Window other h k = absurd h
 wrong_same views metrics axis align ps kind.Suggested other h k = absurd h
 wrong_same views metrics axis align ps kind.Sized other h k = absurd h
 wrong_same views metrics axis align ps kind.Tree other h k = absurd h
+wrong_same views metrics axis align ps kind.Sweep other h k = absurd h
 
 -- a format has one limit at most that it passes first
 pass_same : (views : List LiveView) (metrics : MetricList) (ps : List Part) (first : ℕ) (one other : LimitWord) → PassesInFormat views metrics ps first one → PassesInFormat views metrics ps first other → one ≡ other

@@ -1,6 +1,7 @@
 -- What a line led to, and what was put of its reply.
-use Rattle.std.proofs.Common.{◌≡◌, ◌∙◌, ◌⊎◌, ◌<◌, Bool, true, false, is_err, is_ok, List, ℕ, length, refl, sym, ap, ap₂, subst, inl, inr, arith, true≢false}
-use Rattle.std.specs.Prelude.{IfOk, IfErr, OnErr, not}
+use Rattle.std.proofs.Common.{◌≡◌, ◌∙◌, ◌⊎◌, ◌<◌, Bool, true, false, is_ok, List, ℕ, length, refl, sym, ap, ap₂, subst, inl, inr, arith, true≢false, []}
+use Rattle.sweep_run.specs.Told.{stretches_of}
+use Rattle.std.specs.Prelude.{IfOk, IfErr, OnErr, OnOk, not}
 use Rattle.std.specs.declared.result.Result.{Result}
 use Rattle.std.specs.declared.result.Result.TheVariants.{Ok, Err}
 use Rattle.name_tables.specs.declared.stops.LimitWord.TheVariants as word
@@ -17,7 +18,7 @@ use Rattle.session_undo.specs.State.{IsFirstWith, State}
 use Rattle.session_undo.specs.Explaining.{SaidStep}
 use Rattle.session_undo.specs.Machine.{MeaningStep}
 use Rattle.conflict_core.specs.declared.found.Found.TheVariants as found
-use Rattle.session_undo.specs.Replies.{Reply, MayRefuse, IsTold, Tells, accepted, is_accepted, Nothing, Done, Frames, Rows, Certificate, Core, Diagnosed, Solvable, Outside, Unknown, Taken, Limit, Kind, Conflict, NoEarlier, Overflow, Spent, NoTarget, place_of}
+use Rattle.session_undo.specs.Replies.{Reply, MayRefuse, IsTold, Tells, accepted, is_accepted, Nothing, Done, Frames, Rows, Certificate, Core, Diagnosed, Solvable, Outside, Unknown, Taken, Limit, Kind, Conflict, NoEarlier, Overflow, Spent, NoTarget, place_of, Swept, SweepOverflow}
 use Rattle.diagnosis.specs.Diagnoses.{findings_of}
 use Rattle.reply_texts.specs.Replies.{text_of}
 use Rattle.layout_cli.specs.Machine.{Answers, Begins, GoesOn, IsSilent, LeadsTo, Step, Talking, Talks, TalksAfter}
@@ -84,6 +85,7 @@ heard (good.Certificate levels) mid last hears = some_heard (Ok (good.Certificat
 heard (good.Diagnosed d) mid last hears = some_heard (Ok (good.Diagnosed d)) (Diagnosed (findings_of d)) mid last refl refl hears
 heard (good.Why found.Solvable) mid last hears = some_heard (Ok (good.Why found.Solvable)) Solvable mid last refl refl hears
 heard (good.Why (found.Core rows by without)) mid last hears = some_heard (Ok (good.Why (found.Core rows by without))) (Core rows.items by without.items) mid last refl refl hears
+heard (good.Swept s) mid last hears = some_heard (Ok (good.Swept s)) (Swept (stretches_of s.0.items)) mid last refl refl hears
 
 -- the talking that comes of what a line led to
 abbrev pub kept_in_mind : Result answer.Reply Refusal → Talking → Talking
@@ -98,6 +100,7 @@ mind_hears (Ok good.Rows) mid = record { state = refl; silent = λ is. absurd (t
 mind_hears (Ok (good.Certificate levels)) mid = record { state = refl; silent = λ is. absurd (true≢false (sym (ap is_silent is))); told = λ loud. refl }
 mind_hears (Ok (good.Diagnosed d)) mid = record { state = refl; silent = λ is. absurd (true≢false (sym (ap is_silent is))); told = λ loud. refl }
 mind_hears (Ok (good.Why f)) mid = record { state = refl; silent = λ is. absurd (true≢false (sym (ap is_silent is))); told = λ loud. refl }
+mind_hears (Ok (good.Swept s)) mid = record { state = refl; silent = λ is. absurd (true≢false (sym (ap is_silent is))); told = λ loud. refl }
 mind_hears (Err stop) mid = record { state = refl; silent = λ is. absurd (true≢false (sym (ap is_silent is))); told = λ loud. refl }
 
 -- ---- the reply that is told
@@ -111,6 +114,7 @@ is_good (good.Certificate levels) = refl
 is_good (good.Diagnosed d) = refl
 is_good (good.Why found.Solvable) = refl
 is_good (good.Why (found.Core rows by without)) = refl
+is_good (good.Swept s) = refl
 
 -- the refusal that is told is one that P allows
 told_as : (P F : Reply → Type 0) (r : Refusal) → MayRefuse P r → IsTold F r → (reply : Reply) × P reply × F reply × (false ≡ is_accepted reply) × (is_nothing reply ≡ false)
@@ -124,6 +128,7 @@ told_as P F refusal.NoEarlier may is = (NoEarlier, may, is, refl, refl)
 told_as P F (refusal.Overflow place at) may is = (Overflow (place_of place) at.path at.quantity, may, is, refl, refl)
 told_as P F (refusal.Spent place path) may is = (Spent (place_of place) path, may, is, refl, refl)
 told_as P F (refusal.NoTarget attr up) may is = (NoTarget attr up, may, is, refl, refl)
+told_as P F (refusal.SweepOverflow width path what) may is = (SweepOverflow width path what, may, is, refl, refl)
 told_as P F refusal.OutOfMemory may is = absurd is
 
 -- what a line led to is told by a reply of which F holds, and is kept in mind
@@ -187,13 +192,12 @@ talked old mid last line F r same leads may kept tells hears =
 
 -- ---- results
 
-pub on_err : {T E P : Type 0} (r : Result T E) → P → OnErr r P
-on_err (Ok x) h = tt
-on_err (Err e) h = h
+pub at_ok : {T E P : Type 0} {x : T} (r : Result T E) → r ≡ Ok x → OnOk r P → P
+at_ok {P = P} r is h = subst (λ (e : Result _ _). OnOk e P) is h
 
-pub not_err : {T E : Type 0} (r : Result T E) → is_ok r ≡ not (is_err r)
-not_err (Ok x) = refl
-not_err (Err e) = refl
+pub not_not : (b : Bool) → not (not b) ≡ b
+not_not true = refl
+not_not false = refl
 
 -- ---- lines that are too long
 

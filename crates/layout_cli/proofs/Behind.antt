@@ -27,6 +27,7 @@ change_text scene (Ok good.Rows) items change tells = absurd change
 change_text scene (Ok (good.Certificate levels)) items change tells = absurd change
 change_text scene (Ok (good.Diagnosed d)) items change tells = absurd change
 change_text scene (Ok (good.Why f)) items change tells = absurd change
+change_text scene (Ok (good.Swept s)) items change tells = absurd change
 change_text scene (Err stop) items change tells = absurd change
 
 pub on_ok_as : {T E P Q : Type 0} (r : Result T E) → (P → Q) → OnOk r P → OnOk r Q

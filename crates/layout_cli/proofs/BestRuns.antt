@@ -21,14 +21,14 @@ use Rattle.format_compile.specs.FormatRows.{IsCompiledFormat, MayStopFormat}
 use Rattle.compile_parts.specs.declared.stops.CompileStop.{CompileStop}
 use Rattle.scenes.specs.Scene.{Scene, IsBestScene, with_earlier, with_metric}
 use Rattle.session_undo.specs.State.{State, IsBestState}
-use Rattle.session_undo.specs.Replies.{Reply, Nothing, Done, Frames, Rows, Certificate, Diagnosed, Outside, Unknown, Taken, Limit, Kind, Conflict, NoEarlier, Overflow, Spent, NoTarget, Step as OfStep, Probe, Core, Held, Solvable}
+use Rattle.session_undo.specs.Replies.{Reply, Nothing, Done, Frames, Rows, Certificate, Diagnosed, Outside, Unknown, Taken, Limit, Kind, Conflict, NoEarlier, Overflow, Spent, NoTarget, Step as OfStep, Probe, Core, Held, Solvable, Place, Swept, SweepOverflow, Sweep}
 use Rattle.problem_core.specs.Layout.{Problem}
 use Rattle.session_undo.specs.Adding.{NoEnd, NoOther}
 use Rattle.session_undo.specs.Explaining.{Explains, SaidStep, WhyStep}
 use Rattle.session_undo.proofs.Commands.Carried.{caused}
 use Rattle.layout_solver.specs.declared.removing.RemoveStop.{RemoveStop}
 use Rattle.layout_solver.specs.declared.removing.RemoveStop.TheVariants as removal
-use Rattle.session_undo.specs.Machine.{Diagnoses, Accepts, LeavesFree, Sizes, Solves, SolvesFree, Stands, Suggests, TellsStill, TriedDrop, TriedKeep, TriedRelease, TriedRemove, TriedSize, TriedSuggest, TriedUnsize, MeaningStep, TriedView, TriedTree, TriedMetric, TriedWindow, TriedLine, TriedBudget, TriedUndo, UnlessFar, Ends, Keeps, Tried, parent_name, still_place}
+use Rattle.session_undo.specs.Machine.{Diagnoses, Accepts, LeavesFree, Sizes, Solves, SolvesFree, Stands, Suggests, TellsStill, TriedDrop, TriedKeep, TriedRelease, TriedRemove, TriedSize, TriedSuggest, TriedUnsize, MeaningStep, TriedView, TriedTree, TriedMetric, TriedWindow, TriedLine, TriedBudget, TriedUndo, UnlessFar, Ends, Keeps, Tried, parent_name, still_place, Sweeps, TriedSweep}
 use Rattle.layout_cli.specs.Machine.{GrammarStep, Step, Run}
 
 kept : (old new : State) → IsBestState old → new ≡ old → IsBestState new
@@ -187,6 +187,15 @@ module _ (old : State) (reply : Reply) (new : State) where
   explains-say p (inr (inr (inl over))) = told (Overflow (Held over.held.items) over.at.path over.at.quantity) refl over.refused.0 over.refused.1
   explains-say p (inr (inr (inr spent))) = told (Spent (Held spent.held.items) spent.path) refl spent.refused.0 spent.refused.1
 
+  -- nor does a sweep
+  swept-change : {from to : Fraction} → Sweeps old from to reply new → MaySay old reply new
+  swept-change (inl sweep) = told (Swept sweep.stretches) refl sweep.told.0 sweep.told.1
+  swept-change (inr (inl stop)) = told (SweepOverflow stop.width stop.path stop.what) refl stop.refused.0 stop.refused.1
+  swept-change (inr (inr stop)) = told (Spent (Sweep stop.width) stop.path) refl stop.refused.0 stop.refused.1
+
+  sweep-change : (from to : Fraction) → TriedSweep old from to (Sweeps old from to) reply new → MaySay old reply new
+  sweep-change from to = past (Kind kind.Sweep) refl (past (Limit word.Constant) refl swept-change)
+
   -- what isn't blank gets some reply
   pub meaning-says : (m : Meaning) → is_blank m ≡ false → MeaningStep old m reply new → MaySay old reply new
   meaning-says mean.Nothing some step = absurd (true≢false some)
@@ -213,6 +222,7 @@ module _ (old : State) (reply : Reply) (new : State) where
   meaning-says (mean.Size name width height hug resist) some step = size-change name width height hug resist step
   meaning-says (mean.Unsize name) some step = unsize-change name step
   meaning-says (mean.Keep name) some step = keep-change name step
+  meaning-says (mean.Sweep from to) some step = sweep-change from to step
 
 -- ---- lines
 
@@ -239,6 +249,7 @@ blank_or (mean.Turn to) = inr refl
 blank_or (mean.Size name width height hug resist) = inr refl
 blank_or (mean.Unsize name) = inr refl
 blank_or (mean.Keep name) = inr refl
+blank_or (mean.Sweep from to) = inr refl
 
 -- what asks why gets some reply
 pub why-says : (old : State) (reply : Reply) (new : State) (m : Meaning) → WhyStep old m reply new → MaySay old reply new

@@ -1,10 +1,10 @@
 -- The lines of a script that is made: how many, and how many are refused.
-use Rattle.std.proofs.Common.{◌≡◌, ◌∙◌, ◌++◌, ◌+◌, ◌==◌, ◌&&◌, ℕ, Bool, true, false, List, [], ◌∷◌, refl, sym, ap, subst, arith, ne_eqb}
-use Rattle.std.specs.Prelude.{cond, IfOk, IfErr, OnErr}
+use Rattle.std.proofs.Common.{◌≡◌, ◌∙◌, ◌++◌, ◌+◌, ◌≤◌, ◌==◌, ◌&&◌, ℕ, Bool, true, false, List, [], ◌∷◌, refl, sym, ap, subst, arith, ne_eqb}
+use Rattle.std.specs.Prelude.{cond, is_ok, IfOk, IfErr, OnErr}
 use Rattle.std.specs.declared.result.Result.{Result}
 use Rattle.std.specs.declared.result.Result.TheVariants.{Ok, Err}
 use Rattle.session_undo.specs.State.{State}
-use Rattle.session_undo.specs.Replies.{Reply, MayRefuse, accepted, is_accepted, place_of, Outside, Unknown, Taken, Limit, Kind, Conflict, NoEarlier, Overflow, Spent, NoTarget}
+use Rattle.session_undo.specs.Replies.{Reply, MayRefuse, accepted, is_accepted, place_of, Outside, Unknown, Taken, Limit, Kind, Conflict, NoEarlier, Overflow, Spent, NoTarget, SweepOverflow}
 use Rattle.conflict_core.specs.declared.found.Found.TheVariants as found
 use Rattle.session_undo.specs.declared.reply.Refusal.{Refusal}
 use Rattle.session_undo.specs.declared.reply.Refusal.TheVariants as refusal
@@ -17,7 +17,7 @@ use Rattle.layout_cli.specs.Making.{Refuses, refusal_count}
 -- ---- one line
 
 -- no accepted reply counts
-pub accepted_count : (r : answer.Reply) → 0 ≡ refusal_count (accepted r)
+accepted_count : (r : answer.Reply) → 0 ≡ refusal_count (accepted r)
 accepted_count good.Silent = refl
 accepted_count good.Done = refl
 accepted_count good.Frames = refl
@@ -26,6 +26,7 @@ accepted_count (good.Certificate levels) = refl
 accepted_count (good.Diagnosed d) = refl
 accepted_count (good.Why found.Solvable) = refl
 accepted_count (good.Why (found.Core rows by without)) = refl
+accepted_count (good.Swept s) = refl
 
 -- a refusal that is told is one that F allows, and counts 1
 refused_count : (F : Reply → Type 0) (r : Refusal) → (r ≡ refusal.OutOfMemory → ⊥) → MayRefuse F r → (reply : Reply) × F reply × (1 ≡ refusal_count reply)
@@ -39,6 +40,7 @@ refused_count F refusal.NoEarlier told may = (NoEarlier, may, refl)
 refused_count F (refusal.Overflow place at) told may = (Overflow (place_of place) at.path at.quantity, may, refl)
 refused_count F (refusal.Spent place path) told may = (Spent (place_of place) path, may, refl)
 refused_count F (refusal.NoTarget attr up) told may = (NoTarget attr up, may, refl)
+refused_count F (refusal.SweepOverflow width path what) told may = (SweepOverflow width path what, may, refl)
 refused_count F refusal.OutOfMemory told may = absurd (told refl)
 
 refused_step : (old new : State) (line : List ℕ) (r : Refusal) → (r ≡ refusal.OutOfMemory → ⊥) → MayRefuse (λ reply. Step old line reply old) r → new ≡ old
@@ -47,15 +49,20 @@ refused_step old new line r told may same =
     let reply = refused_count (λ (reply : Reply). Step old line reply old) r told may in
     (reply.0, subst (λ (s : State). Step old line reply.0 s) (sym same) reply.1, reply.2)
 
--- what a refusal counts, where it is told
-pub counted_refusal : {E : Type 0} (old new : State) (line : List ℕ) (r : Result answer.Reply Refusal) (refused : Refusal) → r ≡ Err refused → IfErr r (MayRefuse (λ reply. Step old line reply old)) → OnErr r (new ≡ old)
-    → (end : Result ℕ E) → IfOk end (λ count. refused ≡ refusal.OutOfMemory → ⊥) → IfOk end (λ count. count ≡ 1) → IfOk end (λ count. (reply : Reply) × Step old line reply new × (count ≡ refusal_count reply))
-counted_refusal old new line r refused is may same (Ok count) told one =
-    let allowed : MayRefuse (λ reply. Step old line reply old) refused = subst (λ (e : Result answer.Reply Refusal). IfErr e (MayRefuse (λ reply. Step old line reply old))) is may in
-    let kept : new ≡ old = subst (λ (e : Result answer.Reply Refusal). OnErr e (new ≡ old)) is same in
-    let step = refused_step old new line refused told allowed kept in
+-- what a reply counts, where it is told
+pub counted_reply : {E : Type 0} (old new : State) (line : List ℕ) (r : Result answer.Reply Refusal) → IfOk r (λ reply. Step old line (accepted reply) new) → IfErr r (MayRefuse (λ reply. Step old line reply old)) → OnErr r (new ≡ old)
+    → (end : Result ℕ E) → IfOk end (λ count. r ≡ Err refusal.OutOfMemory → ⊥) → IfOk end (λ count. count ≡ cond (is_ok r) 0 1) → IfOk end (λ count. (reply : Reply) × Step old line reply new × (count ≡ refusal_count reply))
+counted_reply old new line (Ok reply) step may same (Ok count) told one = (accepted reply, step, one ∙ accepted_count reply)
+counted_reply old new line (Err refused) step may same (Ok count) told one =
+    let step = refused_step old new line refused (λ is. told (ap (λ (e : Refusal). Err e) is)) may same in
     (step.0, step.1, one ∙ step.2)
-counted_refusal old new line r refused is may same (Err stop) told one = tt
+counted_reply old new line r step may same (Err stop) told one = tt
+
+-- each counts 1 at most
+pub small_count : {A B E : Type 0} (end : Result ℕ E) (r : Result A B) → IfOk end (λ count. count ≡ cond (is_ok r) 0 1) → IfOk end (λ count. count ≤ 1)
+small_count (Ok count) (Ok x) one = omega (arith, one)
+small_count (Ok count) (Err e) one = omega (arith, one)
+small_count (Err stop) r one = tt
 
 -- ---- all lines
 

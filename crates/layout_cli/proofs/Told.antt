@@ -1,4 +1,5 @@
 -- What a command led to.
+use Rattle.sweep_run.specs.Told.{stretches_of}
 use Rattle.std.proofs.Common.{◌≡◌, ◌∙◌, ◌≤◌, ℕ, Bool, true, false, List, length, refl, sym, ap, ap₂, inl, inr, arith, true≢false}
 use Rattle.std.specs.Prelude.{IfOk, OnErr}
 use Rattle.std.specs.declared.result.Result.{Result}
@@ -11,7 +12,7 @@ use Rattle.session_undo.specs.Explaining.{SaidStep}
 use Rattle.script_text.specs.Meaning.{Said}
 use Rattle.script_text.specs.Grammar.{Line, words_of}
 use Rattle.layout_cli.specs.Machine.{LeadsTo, Step, Talking}
-use Rattle.session_undo.specs.Replies.{Reply, IsChange, accepted, Nothing, Done, Frames, Rows, Certificate, Core, Diagnosed, Solvable}
+use Rattle.session_undo.specs.Replies.{Reply, IsChange, accepted, Nothing, Done, Frames, Rows, Certificate, Core, Diagnosed, Solvable, Swept}
 use Rattle.conflict_core.specs.declared.found.Found.TheVariants as found
 use Rattle.diagnosis.specs.Diagnoses.{findings_of}
 use Rattle.layout_cli.proofs.BestRuns.{step-change, MayChange}
@@ -46,4 +47,5 @@ unchanged old new line (Ok (good.Certificate levels)) same leads kept never = no
 unchanged old new line (Ok (good.Diagnosed d)) same leads kept never = not-led old new line (Diagnosed (findings_of d)) refl same leads
 unchanged old new line (Ok (good.Why found.Solvable)) same leads kept never = not-led old new line Solvable refl same leads
 unchanged old new line (Ok (good.Why (found.Core rows by without))) same leads kept never = not-led old new line (Core rows.items by without.items) refl same leads
+unchanged old new line (Ok (good.Swept s)) same leads kept never = not-led old new line (Swept (stretches_of s.0.items)) refl same leads
 unchanged old new line (Err stop) same leads kept never = kept

@@ -5,7 +5,7 @@ use Rattle.span_text.specs.Language.{Rel, End, Words}
 use Rattle.span_text.specs.Tokens.{Blanks, Name, Number, Tail}
 use Rattle.span_text.specs.Objects.{Meant}
 use Rattle.span_text.specs.Objects as object
-use Rattle.script_text.specs.Grammar.{Apart, Arguments, Follows, Line, Pull, Ranked, command_word, decimal, directions, first_words, new_change_words, says_nothing, words_of}
+use Rattle.script_text.specs.Grammar.{Apart, Arguments, Follows, Line, Pull, Ranked, command_word, decimal, directions, first_words, new_change_words, new_plain_words, new_words, says_nothing, words_of}
 use Rattle.script_text.specs.Meaning.{Meaning, Said}
 use Rattle.script_text.specs.Meaning as mean
 use Rattle.script_text.specs.declared.words.FirstWord.{FirstWord}
@@ -103,6 +103,14 @@ unsize_never len = name_never mean.Nothing (λ n. End (mean.Unsize n)) (λ n. en
 keep_never : (len : ℕ) → Never mean.Nothing (Arguments len key.Keep)
 keep_never len = name_never mean.Nothing (λ n. End (mean.Keep n)) (λ n. end_never (mean.Keep n) refl)
 
+-- the sweep from this width, behind it
+abbrev Swept : ℕ → Rel Meaning
+Swept a = Number (λ b. End (mean.Sweep (decimal false a) (decimal false b)))
+
+sweep_never : (len : ℕ) → Never mean.Nothing (Arguments len key.Sweep)
+sweep_never len s (t, is, h) = tail_never mean.Nothing (Number Swept) (number_never mean.Nothing Swept (λ a. number_never mean.Nothing (λ b. End (mean.Sweep (decimal false a) (decimal false b)))
+    (λ b. end_never (mean.Sweep (decimal false a) (decimal false b)) refl))) t h
+
 -- ---- what a line says
 
 abbrev meaning_of : Said → Meaning
@@ -125,20 +133,21 @@ abbrev Behind : ℕ → FirstWord → Rel Said
 Behind len w = Apart (Follows len w)
 
 -- no new command is blank
-new_never : (len : ℕ) → Never says_nothing (Words (map command_word new_change_words) (Behind len))
-unfolding new_change_words
+new_never : (len : ℕ) → Never says_nothing (Words (map command_word new_words) (Behind len))
+unfolding new_change_words new_plain_words
 new_never len s (inl (t, is, h)) = apart_never says_nothing (Follows len (first.Command key.Direction)) (follows_never len key.Direction (direction_never len)) t h
 new_never len s (inr (inl (t, is, h))) = apart_never says_nothing (Follows len (first.Command key.Size)) (follows_never len key.Size (size_never len)) t h
 new_never len s (inr (inr (inl (t, is, h)))) = apart_never says_nothing (Follows len (first.Command key.Unsize)) (follows_never len key.Unsize (unsize_never len)) t h
 new_never len s (inr (inr (inr (inl (t, is, h))))) = apart_never says_nothing (Follows len (first.Command key.Keep)) (follows_never len key.Keep (keep_never len)) t h
-new_never len s (inr (inr (inr (inr never)))) = never
+new_never len s (inr (inr (inr (inr (inl (t, is, h)))))) = apart_never says_nothing (Follows len (first.Command key.Sweep)) (follows_never len key.Sweep (sweep_never len)) t h
+new_never len s (inr (inr (inr (inr (inr never))))) = never
 
 -- a line of version 1 says the same in each version
 pub line_later : (v : Version) (line : List ℕ) (said : Said) → Line (words_of version.One) line said → Line (words_of v) line said
 unfolding Line
 line_later version.One line said h = h
 line_later version.Two line said (x, t, is, spaces, start, inl comment) = (x, t, is, spaces, start, inl comment)
-line_later version.Two line said (x, t, is, spaces, start, inr (inl command)) = (x, t, is, spaces, start, inr (inl (inr (longer first_words new_change_words (Behind (length line)) t said command))))
+line_later version.Two line said (x, t, is, spaces, start, inr (inl command)) = (x, t, is, spaces, start, inr (inl (inr (longer first_words new_words (Behind (length line)) t said command))))
 line_later version.Two line said (x, t, is, spaces, start, inr (inr blank)) = (x, t, is, spaces, start, inr (inr blank))
 
 -- a line that is blank or a comment in one version is so in version 1
@@ -147,7 +156,7 @@ unfolding Line
 blank_before version.One line h = h
 blank_before version.Two line (x, t, is, spaces, start, inl comment) = (x, t, is, spaces, start, inl comment)
 blank_before version.Two line (x, t, is, spaces, start, inr (inl (inl (u, word, h)))) = absurd (apart_never says_nothing (Follows (length line) first.Why) (why_never (length line)) u h)
-blank_before version.Two line (x, t, is, spaces, start, inr (inl (inr command))) = elim (either_table first_words new_change_words (Behind (length line)) t says_nothing command) [
+blank_before version.Two line (x, t, is, spaces, start, inr (inl (inr command))) = elim (either_table first_words new_words (Behind (length line)) t says_nothing command) [
   | inl old ↦ (x, t, is, spaces, start, inr (inl old))
   | inr new ↦ absurd (new_never (length line) t new)
 ]

@@ -3,16 +3,21 @@ use Rattle.std.proofs.Common.{◌≡◌, ◌∙◌, inl, inr, ℕ, Bool, true, f
 use Rattle.line_by_line.specs.Answers.{AreWholeLines}
 use Rattle.claim_writing.specs.ClaimLines.{by_line, claim_text, conflict_words}
 use Rattle.claim_writing.specs.Lines.{problem_text, text_of_lines}
-use Rattle.claim_writing.specs.PathTexts.{path_lines, path_text, unfit_line, unfit_text}
+use Rattle.claim_writing.specs.PathTexts.{mark_text, path_lines, path_text, unfit_line, unfit_text}
 use Rattle.claim_writing.specs.Words as words
 use Rattle.claim_writing.specs.declared.claim.Claim.TheVariants.{IsBest, IsConflict}
 use Rattle.view_tree.specs.Views.{LiveView}
 use Rattle.scenes.specs.Scene.{Scene, problem_of, values_by_number}
-use Rattle.session_undo.specs.Replies.{Reply, Nothing, Done, Frames, Rows, Certificate, Core, Diagnosed, Solvable, Outside, Unknown, Taken, Limit, Kind, Conflict, NoEarlier, Overflow, Spent, NoTarget, Place, Step, Still, Probe, Held}
+use Rattle.session_undo.specs.Replies.{Reply, Nothing, Done, Frames, Rows, Certificate, Core, Diagnosed, Solvable, Outside, Unknown, Taken, Limit, Kind, Conflict, NoEarlier, Overflow, Spent, NoTarget, Place, Step, Still, Probe, Held, Sweep, SweepOverflow, Swept}
 use Rattle.session_undo.specs.State.{State}
+use Rattle.frac_core.specs.Fraction.{Fraction}
+use Rattle.sweep_run.specs.declared.stretches.SweepQuantity.{SweepQuantity}
+use Rattle.sweep_run.specs.declared.stretches.SweepQuantity.TheVariants.{At, Breakpoint}
 use Rattle.reply_texts.specs.Cores.{core_lines, id_line}
 use Rattle.reply_texts.specs.Found.{attr_name, findings_text, probe_line, way_text}
-use Rattle.reply_texts.specs.Replies.{frame_text, held_line, kind_text, limit_text, line_of, name_lines, place_text, still_line, text_of}
+use Rattle.reply_texts.specs.Frames.{frame_text, value_text}
+use Rattle.reply_texts.specs.Swept.{far_line, stretch_text, width_line}
+use Rattle.reply_texts.specs.Replies.{held_line, kind_text, limit_text, line_of, name_lines, place_text, still_line, text_of}
 use Rattle.scene_host.specs.Laws.{SaysWholeLines}
 use Rattle.layout_cli.specs.Machine.{Talking, Talks, TalksAfter}
 
@@ -52,11 +57,19 @@ probe_ends : (views : List LiveView) (attr : ℕ) (up : Bool) → EndsLine (prob
 probe_ends views attr up =
     before (codes "probe ") (attr_name views attr ++ (way_text up ++ 10 ∷ [])) (before (attr_name views attr) (way_text up ++ 10 ∷ []) (ended (way_text up)))
 
+width_ends : (width : Fraction) → EndsLine (width_line width)
+width_ends width = before (codes "sweep") (value_text width ++ 10 ∷ []) (ended (value_text width))
+
+far_ends : (what : SweepQuantity) → EndsLine (far_line what)
+far_ends (At quantity) = ended (unfit_line quantity)
+far_ends (Breakpoint mark) = before (codes "unfit breakpoint ") (mark_text mark ++ 10 ∷ []) (ended (mark_text mark))
+
 place_whole : (views : List LiveView) (place : Place) → AreWholeLines (place_text views place)
 place_whole views Step = inl refl
 place_whole views (Still ids) = each still_line (id_ends (codes "still ")) ids
 place_whole views (Probe attr up) = inr (probe_ends views attr up)
 place_whole views (Held ids) = each held_line (id_ends (codes "held ")) ids
+place_whole views (Sweep width) = inr (width_ends width)
 
 -- the lines that stand in front of `ok`
 then_ok : (front : List ℕ) → AreWholeLines (front ++ line_of (codes "ok"))
@@ -81,6 +94,7 @@ reply_whole scene (Certificate levels) =
 reply_whole scene (Diagnosed findings) = then_ok (findings_text scene.tree.views findings)
 reply_whole scene Solvable = then_ok (line_of (codes "no conflict"))
 reply_whole scene (Core ids by values) = then_ok (core_lines ids by values)
+reply_whole scene (Swept stretches) = then_ok (flat_map (stretch_text scene.tree.views) stretches)
 reply_whole scene (Outside at) = word_line (codes "refused 1 syntax ") (decimal at)
 reply_whole scene (Unknown name) = word_line (codes "refused 2 unknown ") name
 reply_whole scene (Taken name) = word_line (codes "refused 3 taken ") name
@@ -99,6 +113,9 @@ reply_whole scene (Spent place path) =
 reply_whole scene (NoTarget attr up) =
     let probe : List ℕ = probe_line scene.tree.views attr up in
     inr (before (line_of (codes "refused 7 overflow")) (probe ++ line_of (codes "unfit target")) (before probe (line_of (codes "unfit target")) (ended (codes "unfit target"))))
+reply_whole scene (SweepOverflow width path what) =
+    inr (before (line_of (codes "refused 7 overflow")) (width_line width ++ (path_text path ++ far_line what))
+    (before (width_line width) (path_text path ++ far_line what) (before (path_text path) (far_line what) (far_ends what))))
 
 -- ---- what is said to a line
 

@@ -5,13 +5,14 @@ ghost use Rattle.edge_io.specs.Outside.{HasFront};
 ghost use Rattle.frac_core.specs.declared.memory.Stop.TheVariants.{OutOfMemory as NoMemory};
 ghost use Rattle.line_by_line.specs.Answers.{HasStopCause, sink_failed};
 ghost use Rattle.layout_cli.specs.Machine.{Step};
-ghost use Rattle.reply_texts.specs.Replies.{text_of};
+ghost use Rattle.reply_texts.specs.Printing.{Puts};
+ghost use Rattle.reply_texts.specs.Replies.{frames_text, text_of};
 ghost use Rattle.reply_texts.specs.declared.reply.TheConstants.{OK_LENGTH};
 ghost use Rattle.session_undo.specs.Replies.{accepted, IsChange, MayRefuse, Tells};
 ghost use Rattle.session_undo.specs.Replies as reply;
 
-use edge_io::{LINE_LIMIT, Sink, put_all};
-use frac_core::Stop;
+use edge_io::{Failed, LINE_LIMIT, Sink, put_all};
+use frac_core::{OutOfMemory, Stop};
 use line_by_line::AnswerStop;
 use name_tables::LimitWord;
 use reply_texts::{OK_LENGTH, print_frames, reply_text};
@@ -36,8 +37,19 @@ pub(crate) fn step(alloc: Global, session: &mut Session, line: &[u8]) -> Result<
     }
 }
 
-/// Puts a reply, or a front of it. Frames go to the sink as they are; the text of another reply is made
-/// first.
+// Puts the frames at once; or line by line, where memory for their text is wanting.
+fn put_frames<K: Sink>(session: &Session, text: &mut Vec<u8>, sink: &mut K) -> Result<(), Failed>
+    requires empty { text.old.items ≡ [] }
+    ensures { Puts K.held K.faults sink.old sink.new (frames_text session.now.scene) result }
+{
+    match reply_text(session, &Ok(Reply::Frames), text) {
+        Ok(()) => put_all(sink, text),
+        Err(OutOfMemory) => print_frames(session, sink),
+    }
+}
+
+/// Puts a reply, or a front of it. Its text is made first, so that it is put at once; the frames want no
+/// memory for that.
 pub(crate) fn put_reply<K: Sink>(
     session: &Session,
     reply: &Result<Reply, Refusal>,
@@ -54,7 +66,7 @@ pub(crate) fn put_reply<K: Sink>(
     ensures unchanged { IsErrOf result NoMemory → IsChange reply.now → ⊥ }
 {
     if let Ok(Reply::Frames) = reply {
-        print_frames(session, sink)?;
+        put_frames(session, text, sink)?;
         return Ok(());
     }
     reply_text(session, reply, text)?;

@@ -1,6 +1,7 @@
 // The script that is made, and what a run of it comes to.
-ghost use Rattle.std.specs.Prelude.{◌≡◌, ◌<◌, ◌≤◌, ◌++◌, ℕ, IfOk, length, string_bytes};
+ghost use Rattle.std.specs.Prelude.{◌≡◌, ◌<◌, ◌≤◌, ◌++◌, ℕ, IfOk, cond, is_ok, length, string_bytes};
 ghost use Rattle.std.specs.Str.Lines.{lines as lines_in};
+ghost use Rattle.std.specs.declared.result.Result.TheVariants.{Err as Refused};
 ghost use Rattle.make_script.specs.Script.{script};
 ghost use Rattle.session_undo.specs.Replies as reply;
 ghost use Rattle.layout_cli.specs.Machine.{Step};
@@ -12,7 +13,7 @@ use crate::output::Output;
 use frac_core::OutOfMemory;
 use make_script::make_script;
 use reply_texts::push_at;
-use session_undo::{Refusal, Session};
+use session_undo::{Refusal, Reply, Session};
 use span_text::lines;
 use std::alloc::Global;
 
@@ -23,14 +24,15 @@ struct Counts {
     refused: u64,
 }
 
-// Counts a refusal that is told: none tells of want of memory.
-fn told_count(refusal: &Refusal) -> Result<u64, OutOfMemory>
-    ensures told { IfOk result (λ _. refusal.now ≡ Refusal.OutOfMemory → ⊥) }
-    ensures one { IfOk result (λ count. count ≡ 1) }
+// How many refusals a reply is that is told: none tells of want of memory.
+fn told_count(reply: &Result<Reply, Refusal>) -> Result<u64, OutOfMemory>
+    ensures told { IfOk result (λ _. reply.now ≡ Refused Refusal.OutOfMemory → ⊥) }
+    ensures count { IfOk result (λ count. count ≡ cond (is_ok reply.now) 0 1) }
 {
-    match refusal {
-        Refusal::OutOfMemory => Err(OutOfMemory),
-        _ => Ok(1),
+    match reply {
+        Ok(_) => Ok(0),
+        Err(Refusal::OutOfMemory) => Err(OutOfMemory),
+        Err(_) => Ok(1),
     }
 }
 
@@ -41,10 +43,9 @@ fn count_refusal(alloc: Global, session: &mut Session, line: &[u8]) -> Result<u6
     ensures small { IfOk result (λ count. count ≤ 1) }
 {
     let reply = step(alloc, session, line);
-    match &reply {
-        Ok(_) => Ok(0),
-        Err(refusal) => told_count(refusal),
-    }
+    let count = told_count(&reply);
+    drop(reply); // for the proof: moved on, not taken apart here
+    count
 }
 
 // Answers the lines of a script, and counts them and those that are refused.
@@ -124,7 +125,9 @@ fn run_over(alloc: Global, script: &[u8]) -> Result<Output, OutOfMemory>
     ensures { IfOk result (λ output. IsSummedUp (lines_in script.now) output.text.items output.is_good) }
 {
     let mut session = Session::new(alloc)?;
-    summed_up(alloc, &mut session, script)
+    let output = summed_up(alloc, &mut session, script);
+    drop(session); // for the proof: moved on, not taken apart here
+    output
 }
 
 /// What a run of the script comes to that is drawn from a seed for a number of views: how many lines it has,

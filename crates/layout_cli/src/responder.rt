@@ -1,6 +1,6 @@
 // A session that answers lines, the first of which may say the version.
 ghost use Rattle.std.specs.Prelude.{◌≡◌, ◌≤◌, ◌+◌, ◌++◌, [], ℕ, List, not, true, false, length, IfOk, IfErr};
-ghost use Rattle.std.specs.Prelude.{IsErrOf, IsOk, OnErr, OnOk, vec_capacity, vec_len};
+ghost use Rattle.std.specs.Prelude.{IsErrOf, IsOk, OnErr, OnOk, is_ok, vec_capacity, vec_len};
 ghost use Rattle.edge_io.specs.declared.feed.TheConstants.{LINE_LIMIT};
 ghost use Rattle.frac_core.specs.declared.memory.Stop.TheVariants.{OutOfMemory as NoMemory};
 ghost use Rattle.line_by_line.specs.Answers.{HasStopCause, sink_failed};
@@ -26,6 +26,7 @@ use script_text::{Version, is_version_line};
 use session_undo::{Limits, Refusal, Reply, Session};
 use std::alloc::Global;
 use std::marker::Model;
+use std::mem;
 
 // Whether the line says that the script is of version 2.
 fn is_opening(line: &[u8]) -> bool
@@ -41,19 +42,19 @@ fn put_behind(
     session: &Session,
     reply: &Result<Reply, Refusal>,
     mark: &[u8],
-    text: &mut Vec<u8>,
+    mut text: Vec<u8>,
     out: &mut Vec<u8>,
 ) -> Result<(), OutOfMemory>
-    requires empty { text.old.items ≡ [] }
-    requires room { OK_LENGTH ≤ vec_capacity text.old }
+    requires empty { text.items ≡ [] }
+    requires room { OK_LENGTH ≤ vec_capacity text }
     ensures put { OnOk result (Tells (λ told. out.new.items
         ≡ out.old.items ++ marked mark.now (text_of session.now.scene told)) reply.now) }
     ensures unchanged { OnErr result (out.new.items ≡ out.old.items) }
     ensures room { IsChange reply.now → vec_len out.old + (length mark.now + OK_LENGTH) ≤ vec_capacity out.old
         → IsOk result }
 {
-    reply_text(session, reply, text)?;
-    push_marked(out, mark, text)
+    reply_text(session, reply, &mut text)?;
+    push_marked(out, mark, &text)
 }
 
 // Whether nothing is said to a line.
@@ -122,7 +123,8 @@ impl Responder {
         ensures begun { self.new.begun ≡ self.old.begun }
         ensures same { OnErr result (self.new ≡ self.old) }
     {
-        self.session = Session::with(self.alloc, Version::Two, self.session.limits())?;
+        let session = Session::with(self.alloc, Version::Two, self.session.limits())?;
+        drop(mem::replace(&mut self.session, session));
         Ok(())
     }
 
@@ -140,15 +142,19 @@ impl Responder {
         step(self.alloc, &mut self.session, line)
     }
 
-    // Keeps in mind that a line with a reply came, if this is one.
-    fn begin(&mut self, reply: &Result<Reply, Refusal>)
+    // Keeps in mind that a line with a reply came, if this is one, and says whether it is no refusal.
+    fn begin(&mut self, reply: Result<Reply, Refusal>) -> bool
         ensures state { self.new.state ≡ self.old.state }
-        ensures silent { reply.now ≡ Accepted good.Silent → self.new ≡ self.old }
-        ensures told { (reply.now ≡ Accepted good.Silent → ⊥) → self.new.begun ≡ true }
+        ensures silent { reply ≡ Accepted good.Silent → self.new ≡ self.old }
+        ensures told { (reply ≡ Accepted good.Silent → ⊥) → self.new.begun ≡ true }
+        ensures good { result ≡ is_ok reply }
     {
-        if !is_silent(reply) {
+        if !is_silent(&reply) {
             self.begun = true;
         }
+        let good = reply.is_ok();
+        drop(reply); // for the proof: moved on, not taken apart here
+        good
     }
 
     /// Answers a line: appends the lines of its reply, and says whether that is a refusal. After want of
@@ -163,9 +169,13 @@ impl Responder {
     {
         out.reserve(OK_LENGTH)?;
         let reply = self.step(line);
-        reply_text(&self.session, &reply, out)?;
-        self.begin(&reply);
-        Ok(reply.is_err())
+        match reply_text(&self.session, &reply, out) {
+            Ok(()) => Ok(!self.begin(reply)),
+            Err(OutOfMemory) => {
+                drop(reply); // for the proof: moved on
+                Err(OutOfMemory)
+            }
+        }
     }
 
     /// Answers a line: appends the lines of its reply with a mark in front of each, and says whether that is
@@ -184,12 +194,16 @@ impl Responder {
         ensures same { OnErr result (self.new ≡ self.old) }
         ensures unchanged { OnErr result (out.new.items ≡ out.old.items) }
     {
-        let mut text = Vec::with_capacity(self.alloc, OK_LENGTH)?;
         out.reserve(mark.len() + OK_LENGTH)?;
+        let text = Vec::with_capacity(self.alloc, OK_LENGTH)?;
         let reply = self.step(line);
-        put_behind(&self.session, &reply, mark, &mut text, out)?;
-        self.begin(&reply);
-        Ok(reply.is_err())
+        match put_behind(&self.session, &reply, mark, text, out) {
+            Ok(()) => Ok(!self.begin(reply)),
+            Err(OutOfMemory) => {
+                drop(reply); // for the proof: moved on
+                Err(OutOfMemory)
+            }
+        }
     }
 
     /// Answers a line into a sink, and says whether the reply is no refusal. `text` is room for a reply.
@@ -210,9 +224,13 @@ impl Responder {
         text.clear();
         text.reserve(OK_LENGTH)?;
         let reply = self.step(line);
-        put_reply(&self.session, &reply, text, sink)?;
-        self.begin(&reply);
-        Ok(reply.is_ok())
+        match put_reply(&self.session, &reply, text, sink) {
+            Ok(()) => Ok(self.begin(reply)),
+            Err(stop) => {
+                drop(reply); // for the proof: moved on
+                Err(stop)
+            }
+        }
     }
 
     /// A line came that is too long, which gets a reply.

@@ -60,5 +60,7 @@ pub(crate) fn talk_over<S: Source, K: Sink>(
         (λ old new. IsScriptEnd IsRunOf old new result) }
 {
     let mut talk = Talk::new(alloc)?;
-    answer_script(alloc, &mut talk, source, sink)
+    let answered = answer_script(alloc, &mut talk, source, sink);
+    drop(talk); // for the proof: moved on, not taken apart here
+    answered
 }

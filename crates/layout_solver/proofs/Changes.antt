@@ -194,9 +194,9 @@ module _ (c mid : CornerView) (v : List (ℕ × Fraction)) (past : HaveValues c.
         subst (All IsKeptSolution) (sym (changed-same rest))
         (kept_cons (solution_at (scene_of c) v) (solutions_at c.before past) m.solved.kept m.solved.earlier)
 
-    pub changed_solved : (attrs : List ℕ) (base : List Row) (w : List (ℕ × Fraction)) (rest : HaveValues end.before) → IsMoved mid attrs base end.problem → IsBestEnd end.problem end.marks → end.candidates ≡ []
+    pub changed_solved : (w : List (ℕ × Fraction)) (rest : HaveValues end.before) → IsBestEnd end.problem end.marks → end.candidates ≡ []
         → IsKeptCorner end.problem end.marks → ∥ AreItsValues (scene_of end) w ∥₁ → IsSolved end w rest
-    changed_solved attrs base w rest moved best listed kept h =
+    changed_solved w rest best listed kept h =
         let values = these_values end kept.corner w h in
         solved_end end w rest kept best values
         (changed_kept rest) listed

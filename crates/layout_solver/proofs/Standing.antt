@@ -91,4 +91,4 @@ module _ (c mid : CornerView) (v : List (ℕ × Fraction)) (past : HaveValues c.
 
   pub stood_solved : (before : end.before ≡ mid.before) (w : List (ℕ × Fraction)) (rest : HaveValues end.before) → end.candidates ≡ [] → ∥ AreItsValues (scene_of end) w ∥₁ → IsSolved end w rest
   stood_solved before w rest listed h =
-      changed_solved c mid v past l m end before [] mid.problem.rows w rest moved stood-end listed kept h
+      changed_solved c mid v past l m end before w rest stood-end listed kept h

@@ -4,11 +4,12 @@ use Rattle.std.specs.List.{AllByRecursion as Each}
 use Rattle.frac_core.specs.Fraction.{Fraction, IsLowest}
 use Rattle.problem_core.specs.declared.limits.TheConstants.{ROW_LIMIT}
 use Rattle.problem_core.specs.declared.parts.Mark.{Mark}
+use Rattle.problem_core.specs.declared.parts.Stay.{Stay}
 use Rattle.problem_core.specs.Layout.{Problem, Row}
 use Rattle.problem_core.specs.Kept.{IsNumber}
 use Rattle.cert_core.specs.Paths.{Path}
-use Rattle.corner.specs.Changes.{FromAdded}
-use Rattle.corner.specs.Views.{CornerView}
+use Rattle.corner.specs.Changes.{FromAdded, scene_of}
+use Rattle.corner.specs.Views.{CornerView, Scene}
 use Rattle.corner_ends.specs.Runs.{IsRun}
 use Rattle.layout_solver.specs.Layouts.{AreValuesAt, stays_at, zeros}
 
@@ -22,6 +23,10 @@ CanTake held (a ∷ attrs) =
 abbrev pub attrs_of : Problem → List ℕ
 attrs_of p = map (λ s. s.attr) p.stays
 
+-- the problem of these rows and stays
+abbrev pub as_problem : List Row → List Stay → Problem
+as_problem rows stays = record { rows = rows; stays = stays }
+
 -- the problem has these rows, the corner's attributes at their values there, and more of them at 0
 pub record IsMoved (from : CornerView) (attrs : List ℕ) (rows : List Row) (p : Problem) : Type 0 where
   pub values : List (ℕ × Fraction)
@@ -29,6 +34,10 @@ pub record IsMoved (from : CornerView) (attrs : List ℕ) (rows : List Row) (p :
   pub lowest : All (λ v. IsLowest v.1) values
   pub stand : AreValuesAt from.problem from.marks values
   pub is : p ≡ record { rows = rows; stays = stays_at (values ++ zeros attrs) }
+
+-- the newest mark is that of the corner of now
+abbrev pub IsMarkedHere : CornerView → Type 0
+IsMarkedHere c = (rest : List Scene) × (c.before ≡ scene_of c ∷ rest)
 
 -- a lawful path within the budget from where these rows have joined the kept marks to the last ones
 abbrev pub HasAdded : Problem → List Mark → List Row → ℕ → List Mark → Type 0

@@ -35,8 +35,8 @@ fn add_attrs(c: &mut Corner, attrs: &[u32]) -> Result<(), OutOfMemory>
     Ok(())
 }
 
-// Adds rows, and goes on to the best corner.
-fn join(alloc: Global, c: &mut Corner, rows: &[Row], budget: u64) -> Result<(), RunStop>
+/// Adds rows, and goes on to the best corner.
+pub(crate) fn join(alloc: Global, c: &mut Corner, rows: &[Row], budget: u64) -> Result<(), RunStop>
     requires marked { 0 < length c.old.before }
     requires whole { IsWhole (with_more rows.now c.old.problem) }
     requires values { NoNegativeValue c.old.problem c.old.marks }

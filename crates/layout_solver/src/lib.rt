@@ -25,7 +25,7 @@
 //! | `show_layout`: `best` | the values are those of a best assignment; no other list is |
 //! | `done` | after `Ok`, the problem is the one that was asked for |
 //! | `path` | after `Ok`, a lawful path within the budget leads from the kept corner to the engine's corner |
-//! | `stop` | a conflict (`remove` and `keep` have none) has multipliers that show it; any other a lawful path |
+//! | `stop` | a conflict (none in `remove` and `keep`) has multipliers that show it, any other a path |
 //! | `earlier` | after `Ok`, the layout before is the latest of the earlier ones |
 //! | `same` | after a stop or want of memory, the engine is as before |
 //! | `some`, `none` | the value of an attribute with a stay, and of no other |
@@ -65,8 +65,10 @@ mod laws;
 mod reading;
 mod removing;
 mod shifting;
+mod starting;
 mod trying;
 
 pub use engine::{Change, Engine};
 pub use laws::{removals_stop_plainly, some_cannot_leave, some_removals_stop};
 pub use removing::RemoveStop;
+pub use starting::started;

@@ -81,6 +81,7 @@ is_cause _ = false
 abbrev pub IsDrafting : Meaning → Type 0
 IsDrafting mean.Nothing = ⊥
 IsDrafting mean.Undo = ⊥
+IsDrafting (mean.Sweep from to) = ⊥
 IsDrafting (mean.Budget exchanges) = ⊥
 IsDrafting mean.Frames = ⊥
 IsDrafting mean.Rows = ⊥
@@ -236,6 +237,7 @@ module _ (old : State) (E : Scene → Reply → State → Type 0) (r : Reply) (s
   comes (mean.Keep name) Other is h = come-keep name h
   comes mean.Nothing Other is h = absurd is
   comes mean.Undo Other is h = absurd is
+  comes (mean.Sweep from to) Other is h = absurd is
   comes (mean.Budget exchanges) Other is h = absurd is
   comes mean.Frames Other is h = absurd is
   comes mean.Rows Other is h = absurd is

@@ -95,6 +95,7 @@ module _ (old : State) (definite : IsDefinite old.scene) where
       is ∙ ap (λ (x : LiveView). with_kept old.scene x.id) (one-view old.scene.tree.views name v w found found2) ∙ sym also
   one-draft mean.Nothing d e ok is also = absurd is
   one-draft mean.Undo d e ok is also = absurd is
+  one-draft (mean.Sweep from to) d e ok is also = absurd is
   one-draft (mean.Budget exchanges) d e ok is also = absurd is
   one-draft mean.Frames d e ok is also = absurd is
   one-draft mean.Rows d e ok is also = absurd is
@@ -140,6 +141,7 @@ module _ (old : State) (definite : IsDefinite old.scene) where
   draft-definite (mean.Keep name) d ok (v, found, is) = subst IsDefinite (sym is) (kept-definite old.scene definite v.id)
   draft-definite mean.Nothing d ok is = absurd is
   draft-definite mean.Undo d ok is = absurd is
+  draft-definite (mean.Sweep from to) d ok is = absurd is
   draft-definite (mean.Budget exchanges) d ok is = absurd is
   draft-definite mean.Frames d ok is = absurd is
   draft-definite mean.Rows d ok is = absurd is

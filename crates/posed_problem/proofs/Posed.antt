@@ -7,7 +7,8 @@ use Rattle.script_text.specs.Meaning as mean
 use Rattle.scenes.specs.Scene.{Scene}
 use Rattle.scenes.specs.Steps.{IsProblemOf}
 use Rattle.session_undo.specs.Machine.{PosesDraft, PosesScene, Tried}
-use Rattle.session_undo.specs.Replies.{Done, Limit, NoEarlier, Reply, is_accepted}
+use Rattle.session_undo.specs.Replies.{Done, Kind, Limit, NoEarlier, Reply, is_accepted}
+use Rattle.compile_parts.specs.declared.stops.KindWord.TheVariants as kind
 use Rattle.name_tables.specs.declared.stops.LimitWord.TheVariants as word
 use Rattle.session_undo.specs.State.{State}
 use Rattle.posed_problem.specs.Definite.{IsDefinite, IsDefiniteMeaning}
@@ -67,3 +68,5 @@ one-posed old (mean.Turn to) p q definite ok is also = drafted old (mean.Turn to
 one-posed old (mean.Size name width height hug resist) p q definite ok is also = drafted old (mean.Size name width height hug resist) p q tt definite ok is also
 one-posed old (mean.Unsize name) p q definite ok is also = drafted old (mean.Unsize name) p q tt definite ok is also
 one-posed old (mean.Keep name) p q definite ok is also = drafted old (mean.Keep name) p q tt definite ok is also
+one-posed old (mean.Sweep from to) p q definite ok is also =
+    past (Limit word.Constant) refl (past (Kind kind.Sweep) refl is) ∙ sym (past (Limit word.Constant) refl (past (Kind kind.Sweep) refl also))

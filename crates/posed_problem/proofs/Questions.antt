@@ -22,7 +22,8 @@ use Rattle.session_undo.specs.Adding.{NoEnd, NoOther}
 use Rattle.session_undo.specs.Asking.{Kind, Plain, kind_for}
 use Rattle.session_undo.specs.Explaining.{WhyStep}
 use Rattle.session_undo.specs.Machine.{Ends, Keeps, LeavesFree, MeaningStep, Poses, PosesDraft, PosesScene, Solves, SolvesFree, Stands, TellsStill, Tried, still_place}
-use Rattle.session_undo.specs.Replies.{Certificate, Conflict, Core, Diagnosed, Done, Frames, Held as Trial, Limit, NoEarlier, NoTarget, Nothing, Overflow, Probe, Reply, Rows, Solvable, Spent, Step}
+use Rattle.session_undo.specs.Replies.{Certificate, Conflict, Core, Diagnosed, Done, Frames, Held as Trial, Kind as Wrong, Limit, NoEarlier, NoTarget, Nothing, Overflow, Probe, Reply, Rows, Solvable, Spent, Step, Sweep, SweepOverflow, Swept}
+use Rattle.compile_parts.specs.declared.stops.KindWord.TheVariants as kind
 use Rattle.name_tables.specs.declared.stops.LimitWord.TheVariants as word
 use Rattle.session_undo.specs.State.{State}
 use Rattle.posed_problem.specs.Definite.{IsDefinite, IsDefiniteMeaning}
@@ -88,6 +89,9 @@ cause-told old (mean.Turn to) r s h = drafting-told old (mean.Turn to) r s tt h
 cause-told old (mean.Size name width height hug resist) r s h = drafting-told old (mean.Size name width height hug resist) r s tt h
 cause-told old (mean.Unsize name) r s h = drafting-told old (mean.Unsize name) r s tt h
 cause-told old (mean.Keep name) r s h = drafting-told old (mean.Keep name) r s tt h
+cause-told old (mean.Sweep from to) r s (inl x) = ap is_cause x.1
+cause-told old (mean.Sweep from to) r s (inr (a, inl x)) = ap is_cause x.1
+cause-told old (mean.Sweep from to) r s (inr (a, inr (b, never))) = absurd never
 
 -- ---- what is told of the posed problem
 
@@ -165,6 +169,7 @@ module _ (old : State) (by : List By) (after : State) (d : Scene) where
   ends-clash (mean.Keep name) is e = free-clash e
   ends-clash mean.Nothing is e = absurd is
   ends-clash mean.Undo is e = absurd is
+  ends-clash (mean.Sweep from to) is e = absurd is
   ends-clash (mean.Budget exchanges) is e = absurd is
   ends-clash mean.Frames is e = absurd is
   ends-clash mean.Rows is e = absurd is
@@ -219,6 +224,7 @@ module _ (old after : State) (d : Scene) where
   ends-solved (mean.Keep name) is e = free-solved e
   ends-solved mean.Nothing is e = absurd is
   ends-solved mean.Undo is e = absurd is
+  ends-solved (mean.Sweep from to) is e = absurd is
   ends-solved (mean.Budget exchanges) is e = absurd is
   ends-solved mean.Frames is e = absurd is
   ends-solved mean.Rows is e = absurd is
@@ -272,6 +278,11 @@ plain-told old mean.Diagnose by after is (inl f) = differ is_conflict (Conflict 
 plain-told old mean.Diagnose by after is (inr (inl o)) = differ is_conflict (Conflict by) (Overflow (Probe o.attr o.up) o.at.path o.at.quantity) refl refl o.refused.0
 plain-told old mean.Diagnose by after is (inr (inr (inl s))) = differ is_conflict (Conflict by) (Spent (Probe s.attr s.up) s.path) refl refl s.refused.0
 plain-told old mean.Diagnose by after is (inr (inr (inr l))) = differ is_conflict (Conflict by) (NoTarget l.attr l.up) refl refl l.refused.0
+plain-told old (mean.Sweep from to) by after is (inl x) = differ is_conflict (Conflict by) (Wrong kind.Sweep) refl refl x.1
+plain-told old (mean.Sweep from to) by after is (inr (a, inl x)) = differ is_conflict (Conflict by) (Limit word.Constant) refl refl x.1
+plain-told old (mean.Sweep from to) by after is (inr (a, inr (b, inl t))) = differ is_conflict (Conflict by) (Swept t.stretches) refl refl t.told.0
+plain-told old (mean.Sweep from to) by after is (inr (a, inr (b, inr (inl o)))) = differ is_conflict (Conflict by) (SweepOverflow o.width o.path o.what) refl refl o.refused.0
+plain-told old (mean.Sweep from to) by after is (inr (a, inr (b, inr (inr s)))) = differ is_conflict (Conflict by) (Spent (Sweep s.width) s.path) refl refl s.refused.0
 plain-told old (mean.View name parent) by after is h = true≢false (sym (ap is_plain is))
 plain-told old (mean.Tree text start) by after is h = true≢false (sym (ap is_plain is))
 plain-told old (mean.Drop name) by after is h = true≢false (sym (ap is_plain is))
@@ -306,6 +317,7 @@ drafts-or-plain old mean.Frames p poses = inr refl
 drafts-or-plain old mean.Rows p poses = inr refl
 drafts-or-plain old mean.Diagnose p poses = inr refl
 drafts-or-plain old mean.Certify p poses = inr refl
+drafts-or-plain old (mean.Sweep from to) p poses = inr refl
 drafts-or-plain old (mean.Turn to) p poses = inl (tt, poses)
 drafts-or-plain old (mean.Size name width height hug resist) p poses = inl (tt, poses)
 drafts-or-plain old (mean.Unsize name) p poses = inl (tt, poses)

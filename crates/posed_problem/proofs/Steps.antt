@@ -100,6 +100,11 @@ module _ (old : State) (is : IsDefiniteState old) where
   stay (mean.Size name width height hug resist) r s ok h = steps (mean.Size name width height hug resist) r s tt ok (λ d definite e. solves d r s definite e) h
   stay (mean.Unsize name) r s ok h = steps (mean.Unsize name) r s tt ok (λ d definite e. leaves d r s definite e) h
   stay (mean.Keep name) r s ok h = steps (mean.Keep name) r s tt ok (λ d definite e. solves-free d r s definite e) h
+  stay (mean.Sweep from to) r s ok (inl h) = keep s h.2
+  stay (mean.Sweep from to) r s ok (inr (a, inl h)) = keep s h.2
+  stay (mean.Sweep from to) r s ok (inr (a, inr (b, inl h))) = keep s h.told.1
+  stay (mean.Sweep from to) r s ok (inr (a, inr (b, inr (inl h)))) = keep s h.refused.1
+  stay (mean.Sweep from to) r s ok (inr (a, inr (b, inr (inr h)))) = keep s h.refused.1
 
 pub stay-definite : StepsStayDefinite
 stay-definite old m reply new is ok h = stay old is m reply new ok h

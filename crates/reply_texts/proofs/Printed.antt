@@ -12,7 +12,7 @@ use Rattle.edge_io.specs.Outside.{HasFront}
 use Rattle.edge_io.proofs.Moves.{appends_both, front_first, front_then}
 use Rattle.frac_core.specs.Fraction.{Fraction}
 use Rattle.view_tree.specs.Views.{LiveView}
-use Rattle.reply_texts.specs.Replies.{frame_text}
+use Rattle.reply_texts.specs.Frames.{frame_text}
 use Rattle.reply_texts.specs.Printing.{Puts, frame_line_of}
 
 -- the count was the same before

@@ -4,7 +4,7 @@ use Rattle.std.specs.declared.result.Result.TheVariants.{Ok, Err}
 use Rattle.session_undo.specs.declared.reply.Refusal.{Refusal}
 use Rattle.session_undo.specs.declared.reply.Refusal.TheVariants as refusal
 use Rattle.session_undo.specs.declared.reply.Reply as answer
-use Rattle.session_undo.specs.Replies.{Reply, Tells, IsTold, accepted, place_of, Outside, Unknown, Taken, Limit, Kind, Conflict, NoEarlier, Overflow, Spent, NoTarget}
+use Rattle.session_undo.specs.Replies.{Reply, Tells, IsTold, accepted, place_of, Outside, Unknown, Taken, Limit, Kind, Conflict, NoEarlier, Overflow, Spent, NoTarget, SweepOverflow}
 
 told_as : (P Q : Reply → Type 0) (r : Refusal) → ((told : Reply) → P told → Q told) → IsTold P r → IsTold Q r
 told_as P Q (refusal.Syntax at) to is = to (Outside at) is
@@ -17,6 +17,7 @@ told_as P Q refusal.NoEarlier to is = to NoEarlier is
 told_as P Q (refusal.Overflow place at) to is = to (Overflow (place_of place) at.path at.quantity) is
 told_as P Q (refusal.Spent place path) to is = to (Spent (place_of place) path) is
 told_as P Q (refusal.NoTarget attr up) to is = to (NoTarget attr up) is
+told_as P Q (refusal.SweepOverflow width path what) to is = to (SweepOverflow width path what) is
 told_as P Q refusal.OutOfMemory to is = is
 
 pub tells_as : (P Q : Reply → Type 0) (r : Result answer.Reply Refusal) → ((told : Reply) → P told → Q told) → Tells P r → Tells Q r

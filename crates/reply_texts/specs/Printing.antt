@@ -7,7 +7,7 @@ use Rattle.edge_io.specs.Outside.{HasFront}
 use Rattle.frac_core.specs.Fraction.{Fraction}
 use Rattle.view_tree.specs.Views.{LiveView}
 use Rattle.scenes.specs.Scene.{Scene}
-use Rattle.reply_texts.specs.Replies.{frame_text}
+use Rattle.reply_texts.specs.Frames.{frame_text}
 
 -- the text was put into a sink, or a front of it where the sink failed
 pub record Puts {K T E : Type 0} (held : K → Option (List ℕ)) (faults : K → ℕ) (old new : K) (text : List ℕ)

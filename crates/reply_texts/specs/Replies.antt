@@ -3,8 +3,6 @@ use Rattle.std.specs.Prelude.{ℕ, Bool, List, [], ◌∷◌, ◌++◌, codes, d
 use Rattle.std.specs.List.{flat_map}
 use Rattle.span_text.specs.Bytes.{newline, point, space}
 use Rattle.frac_core.specs.Fraction.{Fraction}
-use Rattle.frac_core.specs.Text.{fraction_text}
-use Rattle.problem_core.specs.Gaps.{value_of}
 use Rattle.problem_core.specs.declared.stops.Quantity.{Quantity}
 use Rattle.name_tables.specs.declared.stops.LimitWord.{LimitWord}
 use Rattle.name_tables.specs.declared.stops.LimitWord.TheVariants as word
@@ -24,9 +22,13 @@ use Rattle.session_undo.specs.Replies.{Reply, Nothing, Done, Frames, Rows, Outsi
 use Rattle.session_undo.specs.Replies.{Certificate, Kind, Conflict, NoEarlier, Overflow, Spent, Place, Step}
 use Rattle.session_undo.specs.Replies.{Still}
 use Rattle.session_undo.specs.Replies.{Core, Diagnosed, Held, Solvable, NoTarget, Probe}
+use Rattle.session_undo.specs.Replies.{Sweep, SweepOverflow, Swept}
 use Rattle.diagnosis.specs.Diagnoses.{Findings}
+use Rattle.reply_texts.specs.Frames.{frame_text}
 use Rattle.reply_texts.specs.Found.{findings_text, probe_line}
 use Rattle.reply_texts.specs.Cores.{core_lines, id_line}
+use Rattle.sweep_laws.specs.Stretches.{Stretch}
+use Rattle.reply_texts.specs.Swept.{far_text, stretch_text, width_line}
 
 -- the word that names a limit
 abbrev pub limit_text : LimitWord → List ℕ
@@ -54,20 +56,7 @@ kind_text kind.Window = codes "window"
 kind_text kind.Suggested = codes "suggested"
 kind_text kind.Sized = codes "sized"
 kind_text kind.Tree = codes "tree"
-
--- a space and the fraction
-unfoldable pub value_text : Fraction → List ℕ
-value_text f = space ∷ fraction_text f
-
--- the name of a view, and its left, top, width and height
-unfoldable pub frame_line : List ℕ → Fraction → Fraction → Fraction → Fraction → List ℕ
-frame_line name left top width height = codes "frame " ++ (name
-    ++ (value_text left ++ (value_text top ++ (value_text width ++ (value_text height ++ newline ∷ [])))))
-
--- the line of a view's frame at these values
-abbrev pub frame_text : List (ℕ × Fraction) → LiveView → List ℕ
-frame_text values v = frame_line v.name (value_of values (left_of v.id)) (value_of values (top_of v.id))
-    (value_of values (width_of v.id)) (value_of values (height_of v.id))
+kind_text kind.Sweep = codes "sweep"
 
 -- `# ID NAME.ATTR`
 unfoldable pub name_line : ℕ → List ℕ → List ℕ → List ℕ
@@ -118,6 +107,7 @@ place_text views Step = []
 place_text views (Still ids) = flat_map still_line ids
 place_text views (Probe attr up) = probe_line views attr up
 place_text views (Held ids) = flat_map held_line ids
+place_text views (Sweep width) = width_line width
 
 -- a quantity doesn't fit: what had stopped, the path, and the quantity
 abbrev pub overflow_text : List LiveView → Place → Path → Quantity → List ℕ
@@ -145,6 +135,10 @@ no_conflict_text = line_of (codes "no conflict") ++ line_of (codes "ok")
 abbrev pub core_text : List ℕ → List By → List (ℕ × List (ℕ × Fraction)) → List ℕ
 core_text ids by values = core_lines ids by values ++ line_of (codes "ok")
 
+-- the lines of the stretches, and `ok`
+abbrev pub sweep_text : Scene → List Stretch → List ℕ
+sweep_text scene stretches = flat_map (stretch_text scene.tree.views) stretches ++ line_of (codes "ok")
+
 -- the text of a refusal, where these are the views
 abbrev pub refusal_text : List LiveView → Reply → List ℕ
 refusal_text views Nothing = []
@@ -155,6 +149,7 @@ refusal_text views (Certificate levels) = []
 refusal_text views (Diagnosed findings) = []
 refusal_text views Solvable = []
 refusal_text views (Core ids by values) = []
+refusal_text views (Swept stretches) = []
 refusal_text views (Outside at) = codes "refused 1 syntax " ++ (decimal at ++ newline ∷ [])
 refusal_text views (Unknown name) = codes "refused 2 unknown " ++ (name ++ newline ∷ [])
 refusal_text views (Taken name) = codes "refused 3 taken " ++ (name ++ newline ∷ [])
@@ -165,6 +160,7 @@ refusal_text views NoEarlier = codes "refused 9 " ++ (codes "undo" ++ newline �
 refusal_text views (Overflow place path quantity) = overflow_text views place path quantity
 refusal_text views (Spent place path) = spent_text views place path
 refusal_text views (NoTarget attr up) = target_text views attr up
+refusal_text views (SweepOverflow width path what) = far_text width path what
 
 -- the text of a reply, of which the scene is the one after the line
 abbrev pub text_of : Scene → Reply → List ℕ
@@ -176,4 +172,5 @@ text_of scene (Certificate levels) = certificate_text scene levels
 text_of scene (Diagnosed findings) = diagnosis_text scene findings
 text_of scene Solvable = no_conflict_text
 text_of scene (Core ids by values) = core_text ids by values
+text_of scene (Swept stretches) = sweep_text scene stretches
 text_of scene refusal = refusal_text scene.tree.views refusal

@@ -81,7 +81,7 @@ pub(crate) fn push_attr(out: &mut Vec<u8>, tree: &Tree, attr: u32) -> Result<(),
 }
 
 // Appends a space, a value and the end of the line.
-#[tactic(auto, unfolding(crate::specs::Replies::value_text))]
+#[tactic(auto, unfolding(crate::specs::Frames::value_text))]
 fn push_end(out: &mut Vec<u8>, value: Wide) -> Result<(), OutOfMemory>
     ensures { IfOk result (λ _. out.new.items
         ≡ out.old.items ++ (space ∷ (fraction_text value ++ newline ∷ []))) }

@@ -2,7 +2,7 @@
 ghost use Rattle.std.specs.Prelude.{◌≡◌, ◌++◌, ◌∷◌, [], IfOk, Some, None, slice_get};
 ghost use Rattle.std.specs.List.{flat_map};
 ghost use Rattle.view_tree.specs.Views.{LiveView};
-ghost use Rattle.reply_texts.specs.Replies.{value_text, frame_line, frame_text};
+ghost use Rattle.reply_texts.specs.Frames.{value_text, placed_line, frame_text};
 
 use frac_core::{FRACTION_ROOM, Frac, OutOfMemory, Wide, write_frac};
 use scenes::Scene;
@@ -17,7 +17,7 @@ pub(crate) struct Frame {
 }
 
 /// Appends a space and a value.
-#[tactic(auto, unfolding(crate::specs::Replies::value_text))]
+#[tactic(auto, unfolding(crate::specs::Frames::value_text))]
 pub(crate) fn push_value(out: &mut Vec<u8>, value: Wide) -> Result<(), OutOfMemory>
     ensures { IfOk result (λ _. out.new.items ≡ out.old.items ++ value_text value) }
 {
@@ -39,13 +39,18 @@ fn push_values(out: &mut Vec<u8>, frame: &Frame) -> Result<(), OutOfMemory>
     push_value(out, Wide::from(frame.height))
 }
 
-// Appends the line that shows a frame.
-#[tactic(auto, unfolding(crate::specs::Replies::frame_line))]
-fn push_frame(out: &mut Vec<u8>, name: &str, frame: &Frame) -> Result<(), OutOfMemory>
+/// Appends the line that shows a frame, behind a word.
+#[tactic(auto, unfolding(crate::specs::Frames::placed_line))]
+pub(crate) fn push_frame(
+    out: &mut Vec<u8>,
+    word: &[u8],
+    name: &str,
+    frame: &Frame,
+) -> Result<(), OutOfMemory>
     ensures { IfOk result (λ _. out.new.items ≡ out.old.items
-        ++ frame_line name.now frame.now.left frame.now.top frame.now.width frame.now.height) }
+        ++ placed_line word.now name.now frame.now.left frame.now.top frame.now.width frame.now.height) }
 {
-    out.extend_from_slice(b"frame ")?;
+    out.extend_from_slice(word)?;
     out.extend_from_slice(name.as_bytes())?;
     push_values(out, frame)?;
     out.push(b'\n')?;
@@ -78,7 +83,7 @@ pub fn push_at(out: &mut Vec<u8>, scene: &Scene, place: usize) -> Result<(), Out
     let Some(frame) = scene.frame_at(place) else {
         return Ok(());
     };
-    push_frame(out, view.name, &named(&frame))
+    push_frame(out, b"frame ", view.name, &named(&frame))
 }
 
 /// Appends the frames of all views.

@@ -14,8 +14,8 @@
 //! where there is room for these its text is appended.
 //!
 //! In reading order: `frames`, `names` (the attributes by their names), `found` (what a scene lacks, and
-//! probes), `numbers` (rows by number), `cores` (rows that clash), `refusals`, `reply`; `printing` (frames
-//! straight to a sink).
+//! probes), `numbers` (rows by number), `cores` (rows that clash), `swept` (every width between two),
+//! `refusals`, `reply`; `printing` (frames straight to a sink).
 #![tactic(auto)]
 
 mod cores;
@@ -26,6 +26,7 @@ mod numbers;
 mod printing;
 mod refusals;
 mod reply;
+mod swept;
 
 pub use frames::push_at;
 pub use numbers::push_line;

@@ -1,7 +1,8 @@
 // Frames that go straight to a sink.
 ghost use Rattle.std.specs.Prelude.{◌≡◌, ◌≤◌, ◌+◌, ◌++◌, [], length, take, IfSome, IfNone};
 ghost use Rattle.reply_texts.specs.Printing.{Puts, line_at};
-ghost use Rattle.reply_texts.specs.Replies.{value_text, frame_line, frames_text};
+ghost use Rattle.reply_texts.specs.Frames.{frame_line, value_text};
+ghost use Rattle.reply_texts.specs.Replies.{frames_text};
 ghost use Rattle.frac_core.specs.declared.text.TheConstants.{FRACTION_ROOM};
 ghost use Rattle.reply_texts.specs.declared.printing.TheConstants.{LINE_ROOM};
 ghost use Rattle.name_tables.specs.declared.stops.TheConstants.{NAME_LIMIT};
@@ -27,7 +28,7 @@ fn write_bytes(line: &mut [u8; LINE_ROOM], at: usize, bytes: &[u8]) -> usize
 }
 
 // Writes a space and a value.
-#[tactic(auto, unfolding(crate::specs::Replies::value_text))]
+#[tactic(auto, unfolding(crate::specs::Frames::value_text))]
 fn write_value(line: &mut [u8; LINE_ROOM], at: usize, value: Frac) -> usize
     requires { at + FRACTION_ROOM + 1 ≤ LINE_ROOM }
     ensures within { result ≤ at + FRACTION_ROOM + 1 }
@@ -40,7 +41,7 @@ fn write_value(line: &mut [u8; LINE_ROOM], at: usize, value: Frac) -> usize
 }
 
 // Writes the line that shows a frame, and says how long it is.
-#[tactic(auto, unfolding(crate::specs::Replies::frame_line))]
+#[tactic(auto, unfolding(crate::specs::Frames::placed_line))]
 fn write_frame(line: &mut [u8; LINE_ROOM], name: &[u8], frame: &Frame) -> usize
     requires { length name.now ≤ NAME_LIMIT }
     ensures within { result ≤ LINE_ROOM }

@@ -8,6 +8,7 @@ ghost use Rattle.reply_texts.specs.Replies.{target_text};
 
 use crate::found::push_probe;
 use crate::numbers::{push_ids, push_line};
+use crate::swept::{push_far, push_width};
 use cert_core::{Conflict, Path, UnfitPath};
 use claim_writing::{conflict_text, path_text, unfit_text};
 use compile_parts::KindWord;
@@ -48,6 +49,7 @@ fn kind_text(word: KindWord) -> &'static str
         KindWord::Suggested => "suggested",
         KindWord::Sized => "sized",
         KindWord::Tree => "tree",
+        KindWord::Sweep => "sweep",
     }
 }
 
@@ -77,6 +79,7 @@ fn push_place(out: &mut Vec<u8>, tree: &Tree, place: &StopPlace) -> Result<(), O
         StopPlace::Still(ids) => push_ids(out, b"still ", ids),
         StopPlace::Probe { attr, up } => push_probe(out, tree, *attr, *up),
         StopPlace::Held(ids) => push_ids(out, b"held ", ids),
+        StopPlace::Sweep(width) => push_width(out, *width),
     }
 }
 
@@ -133,6 +136,7 @@ pub fn push_refusal(tree: &Tree, refusal: &Refusal, out: &mut Vec<u8>) -> Result
         Refusal::Overflow { place, at } => push_overflow(out, tree, place, at),
         Refusal::Spent { place, path } => push_spent(out, tree, place, path),
         Refusal::NoTarget { attr, up } => push_target(out, tree, *attr, *up),
+        Refusal::SweepOverflow { width, path, what } => push_far(out, *width, path, what),
         Refusal::OutOfMemory => Err(OutOfMemory),
     }
 }

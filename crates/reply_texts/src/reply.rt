@@ -4,7 +4,8 @@ ghost use Rattle.std.specs.Prelude.{vec_capacity};
 ghost use Rattle.std.specs.List.{flat_map};
 ghost use Rattle.reply_texts.specs.Replies.{text_of, frames_text, rows_text, name_lines};
 ghost use Rattle.reply_texts.specs.Replies.{certificate_text, core_text, diagnosis_text, line_of};
-ghost use Rattle.reply_texts.specs.Replies.{no_conflict_text};
+ghost use Rattle.reply_texts.specs.Replies.{no_conflict_text, sweep_text};
+ghost use Rattle.sweep_run.specs.Told.{stretches_of};
 ghost use Rattle.diagnosis.specs.Diagnoses.{findings_of};
 ghost use Rattle.scenes.specs.Scene.{Scene};
 ghost use Rattle.session_undo.specs.Replies.{accepted, found_reply, IsChange, Tells};
@@ -15,13 +16,14 @@ use crate::found::push_found;
 use crate::frames::push_frames;
 use crate::names::put_names;
 use crate::refusals::push_refusal;
+use crate::swept::push_stretches;
 use cert_core::{Best, Conflict};
 use claim_writing::{best_text, rows_text};
 use conflict_core::Found;
 use diagnosis::Diagnosis;
 use frac_core::OutOfMemory;
 use problem_core::Values;
-use session_undo::{Refusal, Reply, Session};
+use session_undo::{Refusal, Reply, Session, Stretches};
 use std::alloc::Global;
 
 /// The length of the reply to a change: `ok` and the end of the line.
@@ -109,6 +111,14 @@ fn show_answer(found: &Found, out: &mut Vec<u8>) -> Result<(), OutOfMemory>
     }
 }
 
+fn show_swept(session: &Session, swept: &Stretches, out: &mut Vec<u8>) -> Result<(), OutOfMemory>
+    ensures { IfOk result (λ _. out.new.items
+        ≡ out.old.items ++ sweep_text session.now.scene (stretches_of swept.now.0.items)) }
+{
+    push_stretches(out, session.state().tree(), &swept.0)?;
+    push_ok(out)
+}
+
 // Appends the text of the reply to an accepted line.
 fn push_reply(session: &Session, reply: &Reply, out: &mut Vec<u8>) -> Result<(), OutOfMemory>
     ensures { IfOk result (λ _. out.new.items
@@ -122,6 +132,7 @@ fn push_reply(session: &Session, reply: &Reply, out: &mut Vec<u8>) -> Result<(),
         Reply::Certificate(best) => show_certificate(session, best, out),
         Reply::Diagnosed(found) => show_found(session, found, out),
         Reply::Why(found) => show_answer(found, out),
+        Reply::Swept(stretches) => show_swept(session, stretches, out),
     }
 }
 

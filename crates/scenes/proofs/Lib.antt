@@ -8,6 +8,7 @@ pub mod NextItems
 pub mod Removals
 pub mod Renewals
 pub mod Settings
+pub mod Swept
 pub mod Turned
 pub mod KeptViews
 pub mod Views

@@ -6,3 +6,4 @@ pub mod Leaving
 pub mod Moving
 pub mod Scene
 pub mod Steps
+pub mod Sweeping

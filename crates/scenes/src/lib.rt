@@ -17,7 +17,8 @@
 //! A scene's contracts are stated over [drafts](`Scene`): a draft is a scene of which only rows and values
 //! are still those of before (`specs/Drafts.antt`). A step comes to the draft with the best values of its
 //! rows, by a path within the budget, or tells why it can't (`specs/Steps.antt`); a problem is that of a
-//! draft.
+//! draft. What is best for each width of the window between two is told of a scene as it is, with the stays
+//! at the present values (`specs/Sweeping.antt`).
 //!
 //! Invariant of a [`Scene`] (`IsKeptHistory`): the engine's problem is that of the rows of what is held, at
 //! this scene and at each earlier one that is kept; and so its values are best (`layout_solver`).

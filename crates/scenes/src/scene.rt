@@ -16,6 +16,7 @@ ghost use Rattle.problem_core.specs.Kept.{IsRow};
 ghost use Rattle.problem_core.specs.Window.{structural_rows};
 ghost use Rattle.layout_solver.specs.Layouts.{AreBest};
 ghost use Rattle.held_items.specs.declared.item.Item.TheVariants as kind;
+ghost use Rattle.held_items.specs.Moving.{FitsAfter};
 ghost use Rattle.scenes.specs.Kept.{own_or};
 ghost use Rattle.scenes.specs.Scene.{new_stays};
 ghost use Rattle.scenes.specs.Kept.{no_layout};
@@ -30,8 +31,9 @@ use constraint_compile::Suggestion;
 use diagnosis::{Diagnosis, Stopped, diagnose};
 use frac_core::{Frac, OutOfMemory};
 use held_items::{
-    EARLIER, FIRST_FREE_ROW, IntrinsicSize, Item, WindowSize, has_group, has_size, intrinsic_of,
-    is_near_size, line_count, size_of, structural_rows, suggestion_of, view_attributes,
+    EARLIER, FIRST_FREE_ROW, IntrinsicSize, Item, WindowSize, fits_after, has_group, has_size,
+    intrinsic_of, is_near_size, line_count, size_of, structural_rows, suggestion_of,
+    view_attributes,
 };
 use layout_solver::Engine;
 use name_tables::Metrics;
@@ -40,6 +42,8 @@ use script_text::{AttrWord, Direction};
 use std::alloc::Global;
 use std::collections::VecDeque;
 use std::marker::Model;
+use sweep_param::sweep;
+use sweep_run::{Stretch, SweepStop};
 use version_list::VersionList;
 use view_tree::{Tree, VIEW_LIMIT, ViewId};
 
@@ -111,9 +115,16 @@ fn first_engine(alloc: Global) -> Result<Engine, OutOfMemory>
 {
     let rows = structural_rows(alloc)?;
     let mut engine = Engine::new(alloc)?;
-    begin(&mut engine, &rows)?;
-    engine.show_layout(); // for the proof: what an engine keeps
-    Ok(engine)
+    match begin(&mut engine, &rows) {
+        Ok(()) => {
+            engine.show_layout(); // for the proof: what an engine keeps
+            Ok(engine)
+        }
+        Err(OutOfMemory) => {
+            drop(engine); // for the proof: moved on
+            Err(OutOfMemory)
+        }
+    }
 }
 
 // Puts what an earlier scene has of its own in the place of what the scene after it has.
@@ -125,6 +136,14 @@ fn put_own<T: Drop>(mut own: Option<T>, part: &mut T)
     }
 }
 
+// Whether the two constants less the present one fit, and the second less the first.
+fn is_near_sweep(present: Frac, from: Frac, to: Frac) -> bool
+    ensures yes { result ≡ true → FitsAfter present from × FitsAfter present to × FitsAfter from to }
+    ensures no { result ≡ false → FitsAfter present from × FitsAfter present to × FitsAfter from to → ⊥ }
+{
+    fits_after(present, from) && fits_after(present, to) && fits_after(from, to)
+}
+
 impl Scene {
     ghost use Rattle.view_tree.specs.Views.{first_tree, view_of};
     ghost use Rattle.view_tree.specs.declared.limits.TheConstants.{VIEW_LIMIT};
@@ -133,6 +152,9 @@ impl Scene {
     ghost use Rattle.scenes.specs.Frames.{IsFrameAt, IsFrameOf};
     ghost use Rattle.conflict_core.specs.Shown.{IsFound};
     ghost use Rattle.conflict_core.specs.Trials.{IsCoreStop};
+    ghost use Rattle.scenes.specs.Sweeping.{AreSweptOf, IsFarSweep, IsSweepStopOf};
+    ghost use Rattle.sweep_laws.specs.Fractions.{IsNoMore};
+    ghost use Rattle.sweep_run.specs.Told.{stretches_of};
     ghost use Rattle.held_items.specs.Items.{has_size, intrinsic_of, line_count, suggestion_of};
     ghost use Rattle.held_items.specs.Leaving.{is_in_group};
     ghost use Rattle.held_items.specs.Moving.{IsFarSize};
@@ -347,9 +369,9 @@ impl Scene {
         diagnose(self.alloc, &mut self.engine, budget)
     }
 
-    /// Whether the required rows of a problem have a solution, and if they have none, a core of them. The scene
-    /// is as before. The engine is asked first, which has most of the rows of a problem that a change would
-    /// lead to.
+    /// Whether the required rows of a problem have a solution, and if they have none, a core of them. The
+    /// scene is as before. The engine is asked first, which has most of the rows of a problem that a change
+    /// would lead to.
     pub fn core(&mut self, p: &Problem, budget: u64) -> Result<Found, CoreStop>
         ensures found { IfOk result (IsFound p.now) }
         ensures stop { IfErr result (IsCoreStop p.now budget) }
@@ -365,6 +387,36 @@ impl Scene {
     {
         self.engine.show_layout(); // for the proof: what an engine keeps
         self.engine.certificate()
+    }
+
+    /// Whether the window has a width, and what these widths are above that, or above each other, doesn't
+    /// fit.
+    pub fn is_far_sweep(&self, from: Frac, to: Frac) -> bool
+        ensures yes { result ≡ true → IsFarSweep self.now.scene.held from to }
+        ensures no { result ≡ false → IsFarSweep self.now.scene.held from to → ⊥ }
+    {
+        match size_of(self.items.as_slice()) {
+            Some(held) => !is_near_sweep(held.size.width, from, to),
+            None => false,
+        }
+    }
+
+    /// What is best for all widths of the window from the one to the other, where it has a size, with the
+    /// stays at the present values. The scene is as before.
+    pub fn sweep(&self, from: Frac, to: Frac, budget: u64) -> Result<Vec<Stretch>, SweepStop>
+        requires sized { has_size self.now.scene.held ≡ true }
+        requires order { IsNoMore from to }
+        requires near { IsFarSweep self.now.scene.held from to → ⊥ }
+        ensures swept { IfOk result (λ s. AreSweptOf self.now.scene from to (stretches_of s.items)) }
+        ensures stop { IfErr result (IsSweepStopOf self.now.scene from to budget) }
+    {
+        let Some(held) = size_of(self.items.as_slice()) else {
+            unreachable!();
+        };
+        self.engine.show_layout(); // for the proof: what an engine keeps
+        let _dens = (from.den(), to.den()); // for the proof: what fractions keep
+        let p = self.problem_here()?;
+        sweep(self.alloc, &p, held.first_row, from, to, budget)
     }
 
     /// Whether there is an earlier scene.

@@ -10,7 +10,7 @@ use Rattle.span_text.proofs.TokensLemmas.{end_lives, name_lives, number_lives, w
 use Rattle.span_text.proofs.Offsets.{answers_ok, answers_err, stops_leaves}
 use Rattle.script_text.specs.Meaning.{Meaning, Said}
 use Rattle.script_text.specs.Meaning as mean
-use Rattle.script_text.specs.Grammar.{decimal, is_any, says_nothing, Apart, Arguments, Any, Follows, LineOf, Line, words_of, change_words, changing_words, plain_words, new_change_words}
+use Rattle.script_text.specs.Grammar.{decimal, is_any, says_nothing, Apart, Arguments, Any, Follows, LineOf, Line, words_of, change_words, changing_words, plain_words, new_change_words, new_plain_words}
 use Rattle.script_text.specs.LineReading.{is_hash, apart_at, arguments_at, changing_at, follows_at, said_at, content_at, line_at}
 use Rattle.script_text.specs.declared.words.Keyword.{Keyword}
 use Rattle.script_text.specs.declared.words.Keyword.TheVariants as key
@@ -20,7 +20,7 @@ use Rattle.script_text.specs.declared.words.Version.{Version}
 use Rattle.script_text.specs.declared.words.Version.TheVariants as version
 use Rattle.script_text.proofs.SizeLemmas.{direction_lives, direction_answers, size_lives, size_answers}
 use Rattle.script_text.proofs.Tables.{IsTable, table_answers}
-use Rattle.script_text.proofs.ArgumentLemmas.{bare_answers, window_answers, budget_answers, named_answers, view_answers, metric_answers}
+use Rattle.script_text.proofs.ArgumentLemmas.{bare_answers, window_answers, budget_answers, named_answers, view_answers, metric_answers, sweep_lives, sweep_answers}
 use Rattle.script_text.proofs.FormatLemmas.{made_lives, made_answers, vfl_lives, vfl_answers}
 use Rattle.script_text.proofs.ConstraintLemmas.{linear_lives, constrain_answers}
 use Rattle.script_text.proofs.TreeLemmas.{rest_lives, tree_answers, apart_lives, apart_answers, as_line}
@@ -33,7 +33,7 @@ pub record AreCommands (words : List (List ℕ × FirstWord)) : Type 0 where
   pub no_hash : table_apart is_hash words ≡ true
 
 all_commands : (v : Version) → AreCommands (words_of v)
-unfolding change_words plain_words new_change_words
+unfolding change_words plain_words new_change_words new_plain_words
 all_commands version.One = record { table = record { full = refl; free = refl; bytes = refl }; inside = refl; no_hash = refl }
 all_commands version.Two = record { table = record { full = refl; free = refl; bytes = refl }; inside = refl; no_hash = refl }
 
@@ -58,6 +58,7 @@ arguments_lives len key.Direction = direction_lives len
 arguments_lives len key.Size = size_lives len
 arguments_lives len key.Unsize = name_lives is_space refl (λ n. end_lives is_space (mean.Unsize n))
 arguments_lives len key.Keep = name_lives is_space refl (λ n. end_lives is_space (mean.Keep n))
+arguments_lives len key.Sweep = sweep_lives len
 
 arguments_answers : (len : ℕ) (k : Keyword) (s : List ℕ) → Answers (Arguments len k) s (arguments_at len k s)
 arguments_answers len key.View s = view_answers len s
@@ -80,6 +81,7 @@ arguments_answers len key.Direction s = direction_answers len s
 arguments_answers len key.Size s = size_answers len s
 arguments_answers len key.Unsize s = named_answers mean.Unsize s
 arguments_answers len key.Keep s = named_answers mean.Keep s
+arguments_answers len key.Sweep s = sweep_answers len s
 
 -- ---- what follows the first word
 

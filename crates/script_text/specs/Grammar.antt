@@ -46,6 +46,14 @@ unfoldable pub new_change_words : List (List ℕ × Keyword)
 new_change_words = (codes "direction", key.Direction) ∷ (codes "size", key.Size)
     ∷ (codes "unsize", key.Unsize) ∷ (codes "keep", key.Keep) ∷ []
 
+-- that of the other command that version 2 has besides
+unfoldable pub new_plain_words : List (List ℕ × Keyword)
+new_plain_words = (codes "sweep", key.Sweep) ∷ []
+
+-- those of all that version 2 has besides
+abbrev pub new_words : List (List ℕ × Keyword)
+new_words = new_change_words ++ new_plain_words
+
 -- the words of all commands of version 1
 abbrev pub first_words : List (List ℕ × Keyword)
 first_words = change_words ++ plain_words
@@ -61,7 +69,7 @@ command_word w = (w.0, first.Command w.1)
 -- the first words of lines in this version: in version 2 `why`, and those of its commands
 abbrev pub words_of : Version → List (List ℕ × FirstWord)
 words_of version.One = map command_word first_words
-words_of version.Two = (codes "why", first.Why) ∷ map command_word (first_words ++ new_change_words)
+words_of version.Two = (codes "why", first.Why) ∷ map command_word (first_words ++ new_words)
 
 -- each word is tried before r
 abbrev pub over : List (List ℕ × Keyword) → List ℕ → Result (Keyword × List ℕ) ℕ
@@ -207,6 +215,8 @@ Arguments len key.Size = Name (λ n. Number (λ w. Number (λ h. Pull (codes "hu
     Pull (codes "resist") (λ q. End (mean.Size n (decimal false w) (decimal false h) p q))))))
 Arguments len key.Unsize = Name (λ n. End (mean.Unsize n))
 Arguments len key.Keep = Name (λ n. End (mean.Keep n))
+Arguments len key.Sweep = Word (codes "width") (Number (λ a. Number (λ b.
+    End (mean.Sweep (decimal false a) (decimal false b)))))
 
 -- whatever follows
 abbrev pub Any : {A : Type 0} → A → Rel A

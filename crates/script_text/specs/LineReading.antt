@@ -320,6 +320,15 @@ size_at s = do
   height ← number_at width.1
   pulls_at name.0 width.0 height.0 height.1
 
+-- what follows the word `sweep`: the word `width`, and two widths
+unfoldable pub sweep_at : List ℕ → Result Meaning ℕ
+sweep_at s = do
+  text ← word_at (codes "width") s
+  from ← number_at text
+  to ← number_at from.1
+  _ ← end_at to.1
+  Ok (mean.Sweep (decimal false from.0) (decimal false to.0))
+
 -- what follows the word of a command in a line of this length
 abbrev pub arguments_at : ℕ → Keyword → List ℕ → Result Meaning ℕ
 arguments_at len key.View s = view_at s
@@ -342,6 +351,7 @@ arguments_at len key.Direction s = direction_at s
 arguments_at len key.Size s = size_at s
 arguments_at len key.Unsize s = named_at mean.Unsize s
 arguments_at len key.Keep s = named_at mean.Keep s
+arguments_at len key.Sweep s = sweep_at s
 
 -- the text behind the first word and the spaces that follow it
 unfoldable pub apart_at : List ℕ → Result (List ℕ) ℕ

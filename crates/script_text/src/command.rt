@@ -197,6 +197,11 @@ pub enum Command<'a> {
     Keep {
         name: &'a str,
     },
+    /// What is best for all widths of the window from the one to the other is to be told.
+    Sweep {
+        from: Frac,
+        to: Frac,
+    },
 }
 
 /// The reading of a line: a command, or a command that makes a change, of which it is asked why it would

@@ -28,10 +28,12 @@
 //! direction (ltr | rtl)
 //! size NAME NUMBER NUMBER (hug PRIORITY)? (resist PRIORITY)?
 //! unsize NAME
+//! keep NAME
+//! sweep width NUMBER NUMBER
 //! why CHANGE
 //! ```
 //!
-//! A change is a command down to `release` in the first list, or one of the second other than `why`. Its line
+//! A change is a command down to `release` in the first list, or down to `keep` in the second. Its line
 //! stands behind `why` as it stands alone ([`Reading`]).
 //!
 //! [`read_line_in`] gives the one reading of a line of a version, whose names are slices of it, or the place

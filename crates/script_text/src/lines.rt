@@ -7,7 +7,7 @@ ghost use Rattle.script_text.specs.Meaning.{Said};
 ghost use Rattle.script_text.specs.Meaning as mean;
 ghost use Rattle.script_text.specs.LineReading.{view_at, tree_at, named_at, metric_at, window_at, budget_at};
 ghost use Rattle.script_text.specs.LineReading.{bare_at, apart_at, arguments_at, changing_at, content_at};
-ghost use Rattle.script_text.specs.LineReading.{follows_at, line_at, metric_value_at, said_at};
+ghost use Rattle.script_text.specs.LineReading.{follows_at, line_at, metric_value_at, said_at, sweep_at};
 ghost use Rattle.span_text.specs.Gives.{Gives};
 ghost use Rattle.vfl_text.specs.Stops.{IsStopOf};
 ghost use Rattle.script_text.specs.View.{reading_view, view};
@@ -126,6 +126,19 @@ fn window_line(text: &[u8]) -> Result<Command<'_>, PartStop>
     })
 }
 
+#[tactic(auto, unfolding(crate::specs::LineReading::sweep_at))]
+fn sweep_line(text: &[u8]) -> Result<Command<'_>, PartStop>
+    ensures { GivesOrMemory view result (sweep_at text.now) }
+{
+    let (from, text) = numbers::number(names::word(b"width", text)?)?;
+    let (to, text) = numbers::number(text)?;
+    pieces::end(text)?;
+    Ok(Command::Sweep {
+        from: signed_number(false, from),
+        to: signed_number(false, to),
+    })
+}
+
 #[tactic(auto, unfolding(crate::specs::LineReading::budget_at))]
 fn budget_line(text: &[u8]) -> Result<Command<'_>, PartStop>
     ensures { GivesOrMemory view result (budget_at text.now) }
@@ -205,6 +218,7 @@ fn arguments(
         Keyword::Size => size(text),
         Keyword::Unsize => unsize_line(text),
         Keyword::Keep => keep_line(text),
+        Keyword::Sweep => sweep_line(text),
     }
 }
 

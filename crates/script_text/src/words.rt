@@ -5,8 +5,8 @@ ghost use Rattle.span_text.specs.Gives.{Gives};
 ghost use Rattle.span_text.specs.Reading.{tried};
 ghost use Rattle.script_text.specs.Directions.{leading, trailing, turned};
 ghost use Rattle.script_text.specs.Grammar.{alignments, attributes, change_words, changing_words, directions};
-ghost use Rattle.script_text.specs.Grammar.{first_words, new_change_words, over, plain_words, word_text};
-ghost use Rattle.script_text.specs.Grammar.{words_of};
+ghost use Rattle.script_text.specs.Grammar.{first_words, new_change_words, new_words, over, plain_words};
+ghost use Rattle.script_text.specs.Grammar.{word_text, words_of};
 ghost use Rattle.script_text.specs.LineReading.{as_first};
 ghost use Rattle.script_text.specs.declared.words.Keyword as keyword_type;
 
@@ -35,6 +35,7 @@ pub enum Keyword {
     Size,
     Unsize,
     Keep,
+    Sweep,
 }
 
 /// The first word of a line: that of a command, or the one that asks why a command would clash.
@@ -175,21 +176,33 @@ fn plain_word<'a>(
 }
 
 // The word of a command that makes a change, of those that version 2 has besides, and the text at once behind
-// it.
-fn new_change_word(text: &[u8]) -> Result<(Keyword, &[u8]), usize>
-    ensures { Gives (λ p. (p.0, p.1.now)) result (tried new_change_words text.now) }
+// it; or what the other words answer.
+fn new_change_word<'a>(
+    text: &'a [u8],
+    other: Result<(Keyword, &'a [u8]), usize>,
+) -> Result<(Keyword, &'a [u8]), usize>
+    ensures { (r : Result (keyword_type.Keyword × List ℕ) ℕ) → Gives (λ p. (p.0, p.1.now)) other.entry r
+        → Gives (λ p. (p.0, p.1.now)) result (over new_change_words text.now r) }
 {
-    let found = or_else(b"keep", Keyword::Keep, text, Err(text.len()));
+    let found = or_else(b"keep", Keyword::Keep, text, other);
     let found = or_else(b"unsize", Keyword::Unsize, text, found);
     let found = or_else(b"size", Keyword::Size, text, found);
     or_else(b"direction", Keyword::Direction, text, found)
+}
+
+// The word of a command that version 2 has besides, and the text at once behind it.
+fn new_word(text: &[u8]) -> Result<(Keyword, &[u8]), usize>
+    ensures { Gives (λ p. (p.0, p.1.now)) result (tried new_words text.now) }
+{
+    let found = or_else(b"sweep", Keyword::Sweep, text, Err(text.len()));
+    new_change_word(text, found)
 }
 
 /// The word of a command of version 2 that makes a change, and the text at once behind it.
 pub fn changing_word(text: &[u8]) -> Result<(Keyword, &[u8]), usize>
     ensures { Gives (λ p. (p.0, p.1.now)) result (tried changing_words text.now) }
 {
-    change_word(text, new_change_word(text))
+    change_word(text, new_change_word(text, Err(text.len())))
 }
 
 // The word of a command of version 1, and the text at once behind it; or what the other words answer.
@@ -221,7 +234,7 @@ pub fn first_word(text: &[u8], version: Version) -> Result<(FirstWord, &[u8]), u
     match version {
         Version::One => first_of(old_word(text, Err(text.len()))),
         Version::Two => {
-            let command = first_of(old_word(text, new_change_word(text)));
+            let command = first_of(old_word(text, new_word(text)));
             or_else(b"why", FirstWord::Why, text, command)
         }
     }

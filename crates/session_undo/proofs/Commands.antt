@@ -10,6 +10,7 @@ pub mod Rooms
 pub mod SizeSteps
 pub mod Steps
 pub mod SuggestionSteps
+pub mod Swept
 pub mod TreeChains
 pub mod TreeInstances
 pub mod TreeLimits

@@ -82,6 +82,7 @@ kind_for (mean.Turn to) = Turned
 kind_for (mean.Size name width height hug resist) = Any
 kind_for (mean.Unsize name) = Left
 kind_for (mean.Keep name) = Kept
+kind_for (mean.Sweep from to) = Plain
 
 -- something is wished of a view
 abbrev pub IsWish : Meaning → Type 0

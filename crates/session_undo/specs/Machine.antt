@@ -50,9 +50,14 @@ use Rattle.scenes.specs.Scene.{AreDraftRows, IsBestScene, with_intrinsic, with_p
 use Rattle.session_undo.specs.State.{State}
 use Rattle.session_undo.specs.Replies.{Reply, Done, Nothing, Frames, Rows, Outside, Unknown, Taken, Limit}
 use Rattle.session_undo.specs.Replies.{Kind, Certificate, NoEarlier, Conflict, Overflow, Spent, Place, Step}
-use Rattle.session_undo.specs.Replies.{Still, Diagnosed, NoTarget, Probe}
+use Rattle.session_undo.specs.Replies.{Still, Diagnosed, NoTarget, Probe, Sweep, SweepOverflow, Swept}
 use Rattle.diagnosis.specs.Diagnoses.{Findings}
 use Rattle.scenes.specs.Diagnosing.{AreFindingsOf, IsCertificateOf, IsProbedStop}
+use Rattle.scenes.specs.Sweeping.{AreSweptOf, IsFarSweep, IsSweepStopOf, problem_here}
+use Rattle.sweep_laws.specs.Fractions.{IsLess}
+use Rattle.sweep_laws.specs.Stretches.{Stretch}
+use Rattle.sweep_run.specs.declared.stretches.SweepQuantity.{SweepQuantity}
+use Rattle.sweep_run.specs.declared.stretches.SweepStop.TheVariants as swept
 use Rattle.held_items.specs.Leaving.{is_in_group}
 use Rattle.scenes.specs.Leaving.{without_group, without_intrinsic, without_suggestion, without_views}
 use Rattle.held_items.specs.Moving.{AreNear, FitsAfter, IsFarSize}
@@ -200,6 +205,48 @@ pub record LacksTarget (old : State) (reply : Reply) (new : State) : Type 0 wher
 abbrev pub Diagnoses : State → Reply → State → Type 0
 Diagnoses old reply new =
     Finds old reply new ⊎ ProbeOverflows old reply new ⊎ ProbeSpends old reply new ⊎ LacksTarget old reply new
+
+-- ---- sweeps
+
+-- the one width is above the other, or the window has no size
+abbrev pub IsNoSweep : Scene → Fraction → Fraction → Type 0
+IsNoSweep scene from to = IsLess to from ⊎ (has_size scene.held ≡ false)
+
+-- neither that, nor what a line can't name
+abbrev pub IsSweepFree : Scene → Fraction → Fraction → Type 0
+IsSweepFree scene from to = (IsNoSweep scene from to → ⊥) × (IsFarSweep scene.held from to → ⊥)
+
+-- the stretches of the widths are told
+pub record TellsSweep (old : State) (from to : Fraction) (reply : Reply) (new : State) : Type 0 where
+  pub stretches : List Stretch
+  pub are : AreSweptOf old.scene from to stretches
+  pub told : Keeps (Swept stretches) old reply new
+
+-- something that a sweep forms doesn't fit at the end of a path within the budget
+pub record SweepOverflows (old : State) (from to : Fraction) (reply : Reply) (new : State) : Type 0 where
+  pub width : Fraction
+  pub path : Path
+  pub what : SweepQuantity
+  pub stopped : IsSweepStopOf old.scene from to old.budget (swept.Unfit width path what)
+  pub refused : Keeps (SweepOverflow width path what) old reply new
+
+-- a run of it has just the budget's exchanges, and its last corner is no end
+pub record SweepSpends (old : State) (from to : Fraction) (reply : Reply) (new : State) : Type 0 where
+  pub width : Fraction
+  pub path : Path
+  pub stopped : IsSweepStopOf old.scene from to old.budget (swept.Spent width path)
+  pub refused : Keeps (Spent (Sweep width) path) old reply new
+
+-- what is best for each width is told, or why the sweep stops
+abbrev pub Sweeps : State → Fraction → Fraction → Reply → State → Type 0
+Sweeps old from to reply new =
+    TellsSweep old from to reply new ⊎ SweepOverflows old from to reply new
+    ⊎ SweepSpends old from to reply new
+
+-- the widths from the one to the other
+abbrev pub TriedSweep : State → Fraction → Fraction → (Reply → State → Type 0) → Reply → State → Type 0
+TriedSweep old from to F = Unless (IsNoSweep old.scene from to) (Kind kind.Sweep) old
+    (Unless (IsFarSweep old.scene.held from to) (Limit word.Constant) old F)
 
 -- ---- limits and names
 
@@ -586,6 +633,7 @@ Tried old (mean.Turn to) End Other = End (with_direction old.scene to)
 Tried old (mean.Size name width height hug resist) End Other = TriedSize old name width height hug resist End
 Tried old (mean.Unsize name) End Other = TriedUnsize old name End
 Tried old (mean.Keep name) End Other = TriedKeep old name End
+Tried old (mean.Sweep from to) End Other = TriedSweep old from to (End old.scene)
 
 -- ---- what a line leads to
 
@@ -613,6 +661,7 @@ Ends old (mean.Turn to) = Stands old
 Ends old (mean.Size name width height hug resist) = Solves old
 Ends old (mean.Unsize name) = LeavesFree old
 Ends old (mean.Keep name) = SolvesFree old
+Ends old (mean.Sweep from to) = λ scene. Sweeps old from to
 
 -- what a line that says this leads to
 abbrev pub MeaningStep : State → Meaning → Reply → State → Type 0
@@ -628,10 +677,15 @@ PosesDraft p draft reply new = IsProblemOf draft p
 abbrev pub PosesScene : State → Problem → Reply → State → Reply → State → Type 0
 PosesScene old p answer next reply new = p ≡ problem_of old.scene
 
--- no cause is against the command, and this is the problem of its draft; of a command that has none it is the
--- scene's (a cause would make the reply a refusal, and `Done` is none; there is none against `certify` and
--- `diagnose`)
+-- the problem is that of the rows as they are, with the stays at the present values
+abbrev pub PosesHere : State → Problem → Reply → State → Type 0
+PosesHere old p reply new = p ≡ problem_here old.scene
+
+-- no cause is against the command, and this is the problem of its draft; of a sweep it is that of the present
+-- width, and of another command that has no draft the scene's (a cause would make the reply a refusal, and
+-- `Done` is none; there is none against `certify` and `diagnose`)
 abbrev pub Poses : State → Meaning → Problem → Type 0
 Poses old mean.Certify p = p ≡ problem_of old.scene
 Poses old mean.Diagnose p = p ≡ problem_of old.scene
+Poses old (mean.Sweep from to) p = TriedSweep old from to (PosesHere old p) Done old
 Poses old m p = Tried old m (PosesDraft p) (PosesScene old p) Done old

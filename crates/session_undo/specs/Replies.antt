@@ -12,6 +12,10 @@ use Rattle.cert_core.specs.Paths.{Path}
 use Rattle.conflict_core.specs.declared.found.Found.{Found}
 use Rattle.conflict_core.specs.declared.found.Found.TheVariants as found
 use Rattle.diagnosis.specs.Diagnoses.{Findings, findings_of}
+use Rattle.frac_core.specs.Fraction.{Fraction}
+use Rattle.sweep_laws.specs.Stretches.{Stretch}
+use Rattle.sweep_run.specs.Told.{stretches_of}
+use Rattle.sweep_run.specs.declared.stretches.SweepQuantity.{SweepQuantity}
 use Rattle.session_undo.specs.State.{State}
 use Rattle.session_undo.specs.declared.reply.Reply as answer
 use Rattle.session_undo.specs.declared.reply.Reply.TheVariants as good
@@ -21,28 +25,32 @@ use Rattle.session_undo.specs.declared.reply.Refusal.{Refusal}
 use Rattle.session_undo.specs.declared.reply.Refusal.TheVariants as refusal
 
 -- what had stopped: the run over the command's own problem, or that of a removal while these rows were still
--- held, or a probe of this attribute, up or down, or the trial of these rows
+-- held, or a probe of this attribute, up or down, or the trial of these rows, or a run of a sweep, with this
+-- width
 pub data Place : Type 0 where
   Step : Place
   Still : List ℕ → Place
   Probe : ℕ → Bool → Place
   Held : List ℕ → Place
+  Sweep : Fraction → Place
 
 -- what a stop's place in the code stands for
 abbrev pub place_of : StopPlace → Place
 place_of place.Step = Step
 place_of (place.Still ids) = Still ids.items
 place_of (place.Probe attr up) = Probe attr up
+place_of (place.Sweep width) = Sweep width
 place_of (place.Held ids) = Held ids.items
 
 -- `Nothing` to a blank line or a comment, `Done` to a change, `Frames`, `Rows`, `Certificate`, with the
 -- multipliers of each level, and `Diagnosed`, with what is found of the scene, to questions; to the question
 -- why a command would clash `Solvable`, where its problem has a solution, or `Core`, with rows that clash,
--- their multipliers, and for each row values that satisfy the others; and the refusals: where the line leaves
--- the grammar, the unknown or taken name, the limit, the wrong use, the multipliers of the required rows,
--- that there is no earlier scene; and, each with what had stopped, the path with the quantity that doesn't fit
--- at its end, and the path that uses up the exchanges; and the attribute of a probe whose wished value doesn't
--- fit, up or down
+-- their multipliers, and for each row values that satisfy the others; `Swept`, with the stretches of the
+-- window's widths; and the refusals: where the line leaves the grammar, the unknown or taken name, the limit,
+-- the wrong use, the multipliers of the required rows, that there is no earlier scene; and, each with what had
+-- stopped, the path with the quantity that doesn't fit at its end, and the path that uses up the exchanges;
+-- the attribute of a probe whose wished value doesn't fit, up or down; and the width of the window, the path
+-- and what of a sweep doesn't fit at its end
 pub data Reply : Type 0 where
   Nothing : Reply
   Done : Reply
@@ -52,6 +60,7 @@ pub data Reply : Type 0 where
   Diagnosed : Findings → Reply
   Solvable : Reply
   Core : List ℕ → List By → List (ℕ × List (ℕ × Fraction)) → Reply
+  Swept : List Stretch → Reply
   Outside : ℕ → Reply
   Unknown : List ℕ → Reply
   Taken : List ℕ → Reply
@@ -62,6 +71,7 @@ pub data Reply : Type 0 where
   Overflow : Place → Path → Quantity → Reply
   Spent : Place → Path → Reply
   NoTarget : ℕ → Bool → Reply
+  SweepOverflow : Fraction → Path → SweepQuantity → Reply
 
 -- whether it is no refusal
 abbrev pub is_accepted : Reply → Bool
@@ -73,6 +83,7 @@ is_accepted (Certificate levels) = true
 is_accepted (Diagnosed findings) = true
 is_accepted Solvable = true
 is_accepted (Core ids by values) = true
+is_accepted (Swept stretches) = true
 is_accepted (Outside at) = false
 is_accepted (Unknown name) = false
 is_accepted (Taken name) = false
@@ -83,6 +94,7 @@ is_accepted NoEarlier = false
 is_accepted (Overflow place path quantity) = false
 is_accepted (Spent place path) = false
 is_accepted (NoTarget attr up) = false
+is_accepted (SweepOverflow width path what) = false
 
 -- what is told of the required rows of a problem
 abbrev pub found_reply : Found → Reply
@@ -98,6 +110,7 @@ accepted good.Rows = Rows
 accepted (good.Certificate levels) = Certificate levels
 accepted (good.Diagnosed d) = Diagnosed (findings_of d)
 accepted (good.Why f) = found_reply f
+accepted (good.Swept s) = Swept (stretches_of s.0.items)
 
 -- the refusal is one that F allows, or what ends the run
 abbrev pub MayRefuse : (Reply → Type 0) → Refusal → Type 0
@@ -111,6 +124,7 @@ MayRefuse F refusal.NoEarlier = F NoEarlier
 MayRefuse F (refusal.Overflow place at) = F (Overflow (place_of place) at.path at.quantity)
 MayRefuse F (refusal.Spent place path) = F (Spent (place_of place) path)
 MayRefuse F (refusal.NoTarget attr up) = F (NoTarget attr up)
+MayRefuse F (refusal.SweepOverflow width path what) = F (SweepOverflow width path what)
 MayRefuse F refusal.OutOfMemory = ⊤
 
 -- where the command is accepted, the step leads to its reply and the session after
@@ -133,6 +147,7 @@ IsTold F refusal.NoEarlier = F NoEarlier
 IsTold F (refusal.Overflow place at) = F (Overflow (place_of place) at.path at.quantity)
 IsTold F (refusal.Spent place path) = F (Spent (place_of place) path)
 IsTold F (refusal.NoTarget attr up) = F (NoTarget attr up)
+IsTold F (refusal.SweepOverflow width path what) = F (SweepOverflow width path what)
 IsTold F refusal.OutOfMemory = ⊥
 
 -- F holds of the reply that is told of what a command led to; none is told of want of memory
@@ -149,4 +164,5 @@ IsChange (Ok good.Rows) = ⊥
 IsChange (Ok (good.Certificate levels)) = ⊥
 IsChange (Ok (good.Diagnosed d)) = ⊥
 IsChange (Ok (good.Why f)) = ⊥
+IsChange (Ok (good.Swept s)) = ⊥
 IsChange (Err refusal) = ⊥

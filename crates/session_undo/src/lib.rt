@@ -32,5 +32,5 @@ mod reply;
 mod session;
 
 pub use limits::{Limits, constants_are_as_said};
-pub use reply::{NoEarlier, Refusal, Reply, StopPlace};
+pub use reply::{NoEarlier, Refusal, Reply, StopPlace, Stretches};
 pub use session::Session;

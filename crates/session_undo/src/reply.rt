@@ -4,7 +4,7 @@ ghost use Rattle.view_tree.specs.JsonStops.{MayStayOut};
 ghost use Rattle.session_undo.specs.Adding.{refusal_of, answer_of, IsLeftAnswer, NoEnd, TellsStop};
 ghost use Rattle.session_undo.specs.Machine.{TriedTree};
 ghost use Rattle.session_undo.specs.Explained.{core_refusal};
-ghost use Rattle.session_undo.specs.Probed.{probe_refusal};
+ghost use Rattle.session_undo.specs.Probed.{probe_refusal, sweep_refusal};
 ghost use Rattle.session_undo.specs.Replies.{MayRefuse};
 ghost use Rattle.session_undo.specs.State.{State};
 
@@ -12,10 +12,11 @@ use cert_core::{Best, Conflict, Path, RunStop, UnfitPath};
 use compile_parts::KindWord;
 use conflict_core::{CoreStop, Found};
 use diagnosis::{DiagnoseStop, Diagnosis};
-use frac_core::OutOfMemory;
+use frac_core::{Frac, OutOfMemory};
 use layout_solver::RemoveStop;
 use name_tables::{LimitWord, OwnedName};
 use std::alloc::AllocError;
+use sweep_run::{Stretch, SweepQuantity, SweepStop};
 use thiserror::Error;
 use view_tree::TreeStop;
 
@@ -36,7 +37,13 @@ pub enum Reply {
     Diagnosed(Diagnosis),
     /// What the required rows of a command's problem come to.
     Why(Found),
+    /// What is best for all widths between two.
+    Swept(Stretches),
 }
+
+/// The stretches of a sweep, in rising order.
+#[derive(Debug, Drop)]
+pub struct Stretches(pub Vec<Stretch>);
 
 /// There is no earlier scene.
 #[derive(Clone, Copy, Debug, PartialEq, Eq, Error)]
@@ -54,6 +61,8 @@ pub enum StopPlace {
     Probe { attr: u32, up: bool },
     /// The trial of these rows.
     Held(Vec<u32>),
+    /// A run of a sweep, with this width of the window.
+    Sweep(Frac),
 }
 
 /// Why a line is refused. Then all is as before.
@@ -82,13 +91,29 @@ pub enum Refusal {
     NoEarlier,
     /// A quantity doesn't fit at the end of this path.
     #[error("a quantity doesn't fit")]
-    Overflow { place: StopPlace, at: UnfitPath },
+    Overflow {
+        place: StopPlace,
+        at: UnfitPath,
+    },
     /// The exchanges are used up.
     #[error("the exchanges are used up")]
-    Spent { place: StopPlace, path: Path },
+    Spent {
+        place: StopPlace,
+        path: Path,
+    },
     /// The value that a probe of this attribute would wish, above or below, doesn't fit.
     #[error("the value that a probe would wish doesn't fit")]
-    NoTarget { attr: u32, up: bool },
+    NoTarget {
+        attr: u32,
+        up: bool,
+    },
+    /// What a sweep forms doesn't fit at the end of this path, with this width of the window.
+    #[error("a quantity of a sweep doesn't fit")]
+    SweepOverflow {
+        width: Frac,
+        path: Path,
+        what: SweepQuantity,
+    },
     /// Memory is wanting. This ends a run.
     #[error("memory is wanting")]
     OutOfMemory,
@@ -222,5 +247,19 @@ pub fn core_refusal(stop: CoreStop) -> Refusal
             path,
         },
         CoreStop::OutOfMemory => Refusal::OutOfMemory,
+    }
+}
+
+/// The refusal for what stops a sweep.
+pub fn sweep_refusal(stop: SweepStop) -> Refusal
+    ensures { result ≡ sweep_refusal stop }
+{
+    match stop {
+        SweepStop::Unfit { width, path, what } => Refusal::SweepOverflow { width, path, what },
+        SweepStop::Spent { width, path } => Refusal::Spent {
+            place: StopPlace::Sweep(width),
+            path,
+        },
+        SweepStop::OutOfMemory => Refusal::OutOfMemory,
     }
 }

@@ -8,7 +8,8 @@ use crate::changes::{Pulls, Ranks, later_intrinsic, parent_or_window, put_metric
 use crate::draft::Draft;
 use crate::limits::{BUDGET_LIMIT, FIRST_LIMITS, Limits};
 use crate::reply::{
-    NoEarlier, Refusal, Reply, answer_of, core_refusal, left_answer, probe_refusal, tree_refusal,
+    NoEarlier, Refusal, Reply, Stretches, answer_of, core_refusal, left_answer, probe_refusal,
+    sweep_refusal, tree_refusal,
 };
 use compile_parts::{CompileStop, KindWord, resolve_rank};
 use constraint_compile::{
@@ -28,6 +29,7 @@ use scenes::{FIRST_BUDGET, NewLine, NewMetrics, Scene, Update};
 use script_text::{Align, AttrWord, Command, Linear, Reading, Version};
 use span_text::Object;
 use std::alloc::Global;
+use std::cmp::Ordering;
 use std::marker::Model;
 use vfl_text::Format;
 use view_tree::{TreeStop, ViewId, ViewStop};
@@ -91,6 +93,7 @@ impl Session {
     ghost use Rattle.session_undo.specs.Machine.{AreKnownPulls, IsRankless, Sizes, TriedSize, TriedUnsize};
     ghost use Rattle.session_undo.specs.Machine.{UnlessPullsRankless, UnlessRankless, UnlessUnknown};
     ghost use Rattle.session_undo.specs.Machine.{TriedKeep, intrinsic_at};
+    ghost use Rattle.session_undo.specs.Machine.{IsNoSweep, IsSweepFree, PosesHere, Sweeps, TriedSweep};
     ghost use Rattle.session_undo.specs.Adding.{AreRanks, IsFreeIntrinsic, IsHeldIntrinsic, IsIntrinsicFor};
     ghost use Rattle.session_undo.specs.Adding.{SizeStep};
     ghost use Rattle.scenes.specs.Steps.{IsProblemOf};
@@ -844,6 +847,49 @@ impl Session {
         }
     }
 
+    // Whether the window's widths can't be swept from the one to the other.
+    fn is_no_sweep(&self, from: Frac, to: Frac) -> bool
+        ensures yes { result ≡ true → IsNoSweep self.now.scene from to }
+        ensures no { result ≡ false → IsNoSweep self.now.scene from to → ⊥ }
+    {
+        from.compare(&to) == Ordering::Greater || !self.scene.has_size()
+    }
+
+    // The cause against a sweep of the window's widths from the one to the other.
+    fn may_sweep(&self, from: Frac, to: Frac) -> Result<(), Refusal>
+        ensures free { OnOk result (IsSweepFree self.now.scene from to) }
+        ensures refused { Refusing (TriedSweep self.now from to (NoEnd self.now.scene)) self.now result }
+    {
+        if self.is_no_sweep(from, to) {
+            return Err(Refusal::Kind(KindWord::Sweep));
+        }
+        if self.scene.is_far_sweep(from, to) {
+            return Err(Refusal::Limit(LimitWord::Constant));
+        }
+        Ok(())
+    }
+
+    // What is best for all widths from the one to the other.
+    fn sweep(&self, from: Frac, to: Frac) -> Result<Reply, Refusal>
+        ensures accepted { Accepting (TriedSweep self.now from to (Sweeps self.now from to)) self.now result }
+        ensures refused { Refusing (TriedSweep self.now from to (Sweeps self.now from to)) self.now result }
+    {
+        self.may_sweep(from, to)?;
+        match self.scene.sweep(from, to, self.budget) {
+            Ok(stretches) => Ok(Reply::Swept(Stretches(stretches))),
+            Err(stop) => Err(sweep_refusal(stop)),
+        }
+    }
+
+    // The problem that is swept, with the present width.
+    fn sweep_problem(&self, from: Frac, to: Frac) -> Result<Problem, Refusal>
+        ensures posed { IfOk result (λ p. TriedSweep self.now from to (PosesHere self.now p) Done self.now) }
+        ensures refused { Refusing (TriedSweep self.now from to (NoEnd self.now.scene)) self.now result }
+    {
+        self.may_sweep(from, to)?;
+        Ok(self.scene.problem_here()?)
+    }
+
     // The scene's problem, where so many exchanges may be allowed.
     fn budget_problem(&self, exchanges: u64) -> Result<Problem, Refusal>
         ensures posed { IfOk result
@@ -1116,11 +1162,12 @@ impl Session {
             Command::Diagnose => self.diagnose(),
             Command::Undo => self.take_back(),
             Command::Budget { exchanges } => self.set_budget(*exchanges),
+            Command::Sweep { from, to } => self.sweep(*from, *to),
             _ => unreachable!(),
         }
     }
 
-    // The problem of a command that asks for no step, which is the scene's.
+    // The problem of a command that asks for no step, which is the scene's but for that of a sweep.
     fn plain_problem(&self, command: &Command<'_>) -> Result<Problem, Refusal>
         requires { kind_for (view command.now) ≡ Plain }
         ensures posed { IfOk result (Poses self.now (view command.now)) }
@@ -1129,6 +1176,7 @@ impl Session {
         match command {
             Command::Undo => self.undo_problem(),
             Command::Budget { exchanges } => self.budget_problem(*exchanges),
+            Command::Sweep { from, to } => self.sweep_problem(*from, *to),
             Command::Nothing
             | Command::Frames
             | Command::Rows
@@ -1138,9 +1186,10 @@ impl Session {
         }
     }
 
-    /// The problem that a command would solve, with the stays at the present values; of a command that solves
-    /// nothing it is the scene's. It is refused by the causes, in their order, by which `apply` refuses the
-    /// command before it solves. It makes the problem, which nothing holds, from copies of the rows.
+    /// The problem that a command would solve, with the stays at the present values, of a sweep that of the
+    /// present width; of a command that solves nothing it is the scene's. It is refused by the causes, in
+    /// their order, by which `apply` refuses the command before it solves. It makes the problem, which
+    /// nothing holds, from copies of the rows.
     pub fn step_problem(&self, command: &Command<'_>) -> Result<Problem, Refusal>
         ensures posed { IfOk result (Poses self.now (view command.now)) }
         ensures refused { Refusing (Tried self.now (view command.now) NoEnd NoOther) self.now result }

@@ -22,4 +22,5 @@ OrderIsUnseen = (attrs : List ℕ) (p : Problem) (at : List Mark) (x : Point)
 
 -- a corner's marks are a corner's in each order
 abbrev pub FrontedIsCorner : Type 0
-FrontedIsCorner = (attrs : List ℕ) (p : Problem) (at : List Mark) → IsCorner p at → IsCorner (fronted attrs p) at
+FrontedIsCorner = (attrs : List ℕ) (p : Problem) (at : List Mark) → IsCorner p at
+    → IsCorner (fronted attrs p) at

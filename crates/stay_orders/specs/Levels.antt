@@ -14,7 +14,8 @@ use Rattle.stay_orders.specs.Orders.{fronted}
 -- a sum over the lines that doesn't tell the levels of stays apart
 abbrev pub FrontedSums : Type 0
 FrontedSums = (f : Line → ℤ) → ((j k : ℕ) (s : Stay) → FIRST_STAY_LEVEL ≤ j → FIRST_STAY_LEVEL ≤ k
-    → f (line_of_stay j s) ≡ f (line_of_stay k s)) → (attrs : List ℕ) (p : Problem) → sum_of f (lines (fronted attrs p)) ≡ sum_of f (lines p)
+    → f (line_of_stay j s) ≡ f (line_of_stay k s)) → (attrs : List ℕ) (p : Problem)
+    → sum_of f (lines (fronted attrs p)) ≡ sum_of f (lines p)
 
 -- rays
 abbrev pub FrontedRays : Type 0

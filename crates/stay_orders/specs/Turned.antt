@@ -13,7 +13,8 @@ first_cost f (s ∷ stays) = cond (int_eq (f s) (pos 0)) (first_cost f stays) (f
 -- where a column costs nothing at a stay that comes first, its first cost is that of before
 abbrev pub OnlyFrontedTurn : Type 0
 OnlyFrontedTurn = (f : Stay → ℤ) (attrs : List ℕ) (stays : List Stay)
-    → All (λ s. Contains attrs s.attr → f s ≡ pos 0) stays → first_cost f (with_front attrs stays) ≡ first_cost f stays
+    → All (λ s. Contains attrs s.attr → f s ≡ pos 0) stays
+    → first_cost f (with_front attrs stays) ≡ first_cost f stays
 
 -- a column with 1 at the stay of 2 and -1 at that of 3
 abbrev pub column : Stay → ℤ

@@ -2,7 +2,8 @@
 // does nothing.
 ghost use Rattle.stay_orders.specs.Orders.{FrontedIsWhole, FrontedStaysBest};
 ghost use Rattle.stay_orders.specs.Corners.{FrontedIsCorner, OrderIsUnseen};
-ghost use Rattle.stay_orders.specs.Levels.{FrontedRays, FrontedSums, PrioritiesAreUnseen, PrioritiesCostTheSame};
+ghost use Rattle.stay_orders.specs.Levels.{FrontedRays, FrontedSums, PrioritiesAreUnseen};
+ghost use Rattle.stay_orders.specs.Levels.{PrioritiesCostTheSame};
 ghost use Rattle.stay_orders.specs.Turned.{OnlyFrontedTurn, SomeTurn};
 ghost use Rattle.stay_orders.specs.Examples.{KeepDecides, LevelsGoByPlace, SomeOrders};
 

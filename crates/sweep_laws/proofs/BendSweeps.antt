@@ -9,8 +9,9 @@ use Rattle.problem_core.proofs.Best.Midpoints.{best-AreSame}
 use Rattle.corner_laws.proofs.MarkWritings.Fits.{whole_is_kept}
 use Rattle.sweep_laws.specs.Fractions.{IsNoMore, difference}
 use Rattle.sweep_laws.specs.Stretches.{AreAllValues, AreMovedTo, IsBestAt, IsLong, IsRightPiece, IsSweep, IsUpwards, Rates, Stretch, moved_values}
-use Rattle.sweep_laws.specs.Instances.{SomeSweeps, StraightIsWrong, bent, both, piece, points}
+use Rattle.sweep_laws.specs.Instances.{SomeSweeps, StraightIsWrong, bent, both, piece, points, still}
 use Rattle.sweep_laws.proofs.Bends.{as_wide_there, at_most_there, bent_at, high-best, is-problem, low-best}
+use Rattle.sweep_laws.proofs.Numbers.{two_numbers}
 use Rattle.sweep_laws.proofs.Forms.{not-short, pieces-form}
 
 ruleset ring = (minus-one, diff-add, diff-mul, diff-neg, diff-pos, neg-pos)
@@ -22,7 +23,7 @@ Value = ℕ × Fraction
 
 all-values : (m n : ℕ) → m < PART_BOUND → n < PART_BOUND → AreAllValues bent (both m n)
 all-values m n hm hn = record {
-  attributes = refl;
+  attributes = two_numbers (still 1 (points 100)) (still 2 (points 100)) (omega arith);
   kept = All-from_recursion (λ (v : Value). IsKept v.1) (both m n) (whole_is_kept m hm, (whole_is_kept n hn, tt));
 }
 

@@ -23,6 +23,7 @@ use Rattle.sweep_laws.specs.Stretches.{AreAllValues, Clash, IsBestAt, IsRightCon
 use Rattle.sweep_laws.specs.Instances.{SomeBounded, both, bounded, bounded_by, by_row, piece, points, row_of, still, term}
 use Rattle.sweep_laws.proofs.BendSweeps.{gives-line, long, no-more-points, reach-line, rising_rates, upwards}
 use Rattle.sweep_laws.proofs.Forms.{behind-form}
+use Rattle.sweep_laws.proofs.Numbers.{two_numbers}
 use Rattle.sweep_laws.proofs.Narrow.{inset, inset-gap, inset-line, no-error, no-gap, own-share, true-is-not, view-same, whole-share, width-gap, width-same}
 
 abbrev Value : Type 0
@@ -140,7 +141,7 @@ bounded-best w hw to =
 
 all-values : (m n : ℕ) → m < PART_BOUND → n < PART_BOUND → AreAllValues bounded (both m n)
 all-values m n hm hn = record {
-  attributes = refl;
+  attributes = two_numbers (still 1 (points 40)) (still 2 (points 20)) (omega arith);
   kept = All-from_recursion (λ (v : Value). IsKept v.1) (both m n) (whole_is_kept m hm, (whole_is_kept n hn, tt));
 }
 

@@ -66,6 +66,13 @@ pub record IsWeighed (q : Problem) : Type 0 where
   pub problem : IsProblem q
   pub weights : Each (λ l. 0 < l.weight) (lines q)
 
+-- where no value is negative the required level costs nothing at all if it doesn't cost above 0
+pub costs_none : (q : Problem) (at : List Mark) (x : Point) → StandsAt q at x → All (λ m. pos 0 ≤ℤ x.num (place m)) at → (CostsAbove q at 0 → ⊥) → cost_at q 0 x.num ≡ pos 0
+costs_none q at x stands values none =
+    let up = both_marks (λ v. pos 0 ≤ℤ x.num v) (lines q) (recursion_from_All (λ k. pos 0 ≤ℤ x.num (place k)) (marks_of (lines q)) (all_up q at x stands values)) in
+    let ups : Each (λ l. pos 0 ≤ℤ part (scales q) x.num 0 l) (lines q) = each-impl (λ l. (pos 0 ≤ℤ x.num (place_of l.name Under)) × (pos 0 ≤ℤ x.num (place_of l.name Over))) (λ l. pos 0 ≤ℤ part (scales q) x.num 0 l) (lines q) (λ l h. part-up (scales q) x.num 0 l h) up in
+    none-above (cost_at q 0 x.num) (sum-not_negative (part (scales q) x.num 0) (lines q) ups) (λ h. none (x, stands, h))
+
 -- where no value is negative and the required level costs nothing, the required rows hold
 satisfies-there : (q : Problem) (at : List Mark) (x : Point) → IsWeighed q → StandsAt q at x → All (λ m. pos 0 ≤ℤ x.num (place m)) at → (CostsAbove q at 0 → ⊥) → Satisfies q (assignment_at x)
 satisfies-there q at x weighed stands values none =

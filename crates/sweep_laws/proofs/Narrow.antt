@@ -25,6 +25,7 @@ use Rattle.sweep_laws.specs.Fractions.{IsLess, IsNoMore, difference}
 use Rattle.sweep_laws.specs.Stretches.{AreAllValues, AreMovedTo, Clash, IsBestAt, IsRightConflict, IsRightPiece, IsSweep, Rates, Stretch, moved_values}
 use Rattle.sweep_laws.specs.Instances.{SomeConflicts, both, by_row, narrow, narrow_by, piece, points, row_of, still, term}
 use Rattle.sweep_laws.proofs.BendSweeps.{gives-line, long, no-more-points, no-more-than, reach-line, rising_rates, upwards}
+use Rattle.sweep_laws.proofs.Numbers.{two_numbers}
 use Rattle.sweep_laws.proofs.Forms.{alone-form, clash-form, not-pointed, not-split, not-twice}
 
 ruleset ring = (minus-one, diff-add, diff-mul, diff-neg, diff-pos, neg-pos)
@@ -197,7 +198,7 @@ narrow-best w hw from =
 
 all-values : (m n : ℕ) → m < PART_BOUND → n < PART_BOUND → AreAllValues narrow (both m n)
 all-values m n hm hn = record {
-  attributes = refl;
+  attributes = two_numbers (still 1 (points 100)) (still 2 (points 80)) (omega arith);
   kept = All-from_recursion (λ (v : Value). IsKept v.1) (both m n) (whole_is_kept m hm, (whole_is_kept n hn, tt));
 }
 

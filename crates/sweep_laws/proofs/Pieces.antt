@@ -5,7 +5,7 @@ use Rattle.std.proofs.lemmas.Bool.{cases_eq}
 use Rattle.std.proofs.lemmas.List.Elements.{All-from_recursion, recursion_from_All}
 use borrow.Author.Differences.{ints}
 use Rattle.frac_core.specs.Fraction.{Fraction, IsKept, IsLowest}
-use Rattle.frac_core.proofs.Lists.{each-from_map, each-onto_map}
+use Rattle.frac_core.proofs.Lists.{each-from_map}
 use Rattle.frac_core.proofs.Made.{same_fraction}
 use Rattle.frac_core.proofs.Numbers.{as-natural, up-from, up-times}
 use Rattle.frac_core.proofs.OneFraction.{one_value}
@@ -23,13 +23,14 @@ use Rattle.corner_laws.proofs.PathEnds.BeginsUnique.{agree-both}
 use Rattle.corner_laws.proofs.ZeroColumns.{all-marks}
 use Rattle.corner_lines.specs.Shifts.{with_constant}
 use Rattle.sweep_laws.specs.Fractions.{IsNoMore, difference}
-use Rattle.sweep_laws.specs.Stretches.{AreAllValues, AreMovedTo, IsBestAt, IsRightPiece, Rates, moved_value, moved_values}
+use Rattle.sweep_laws.specs.Stretches.{AreAllValues, AreMovedTo, AreNumbersOf, IsBestAt, IsRightPiece, Rates, moved_value, moved_values}
 use Rattle.sweep_laws.specs.Laws.{CornerIsPiece, IsMix, Mixes}
 use Rattle.sweep_laws.proofs.Costs.{IsEachCorner, none-between}
 use Rattle.sweep_laws.proofs.EachCorner.{corner_at_each}
 use Rattle.sweep_laws.proofs.Ends.{end-best, weighed-with}
 use Rattle.sweep_laws.proofs.Farther.{inside-mark}
 use Rattle.sweep_laws.proofs.Mixtures.{Places, less-by, mix, mix-is, mix_stands, places, up-mixed}
+use Rattle.sweep_laws.proofs.Numbers.{of_each, same_numbers}
 use Rattle.sweep_laws.proofs.PieceNumbers.{moved-there, rate_den, rate_num, reach-whole, step-is, still-moved, still-reach, whole-way}
 use Rattle.sweep_laws.proofs.Ring.{as-count, mixes-between}
 use Rattle.sweep_laws.proofs.SeenAlike.{columns_at_each}
@@ -167,10 +168,12 @@ agreed q at x y corner hx hy =
     (each-both (λ (s : Stay). Agree (attr_column s.attr) corner.point x) (λ (s : Stay). Agree (attr_column s.attr) corner.point y) q.stays
     (recursion_from_All (λ (s : Stay). Agree (attr_column s.attr) corner.point x) q.stays (corner.attrs_fixed x hx)) (recursion_from_All (λ (s : Stay). Agree (attr_column s.attr) corner.point y) q.stays (corner.attrs_fixed y hy)))
 
-agreed-values : (q : Problem) (at : List Mark) (x y : Point) (vs : List Value) → map (λ (v : Value). v.0) vs ≡ map (λ (s : Stay). s.attr) q.stays → IsCorner q at → StandsAt q at x → StandsAt q at y → Each (λ (v : Value). Agree (attr_column v.0) x y) vs
+agreed-values : (q : Problem) (at : List Mark) (x y : Point) (vs : List Value) → AreNumbersOf q.stays (map (λ (v : Value). v.0) vs) → IsCorner q at → StandsAt q at x → StandsAt q at y → Each (λ (v : Value). Agree (attr_column v.0) x y) vs
 agreed-values q at x y vs e corner hx hy =
     each-from_map (λ (n : ℕ). Agree (attr_column n) x y) (λ (v : Value). v.0) vs
-    (subst (Each (λ (n : ℕ). Agree (attr_column n) x y)) (sym e) (each-onto_map (λ (n : ℕ). Agree (attr_column n) x y) (λ (s : Stay). s.attr) q.stays (agreed q at x y corner hx hy)))
+    (recursion_from_All (λ (n : ℕ). Agree (attr_column n) x y) (map (λ (v : Value). v.0) vs)
+    (of_each q.stays (λ (n : ℕ). Agree (attr_column n) x y) (map (λ (v : Value). v.0) vs) e
+    (All-from_recursion (λ (s : Stay). Agree (attr_column s.attr) x y) q.stays (agreed q at x y corner hx hy))))
 
 -- ---- best at each
 
@@ -243,7 +246,7 @@ module _ (p : Problem) (row : ℕ) (at : List Mark) (a b : Fraction) (x y : Poin
   piece rises lows highs al gx ah gy =
       let d = as-count (b.num *ℤ pos a.den -ℤ a.num *ℤ pos b.den) (not-below-zero (a.num *ℤ pos b.den) (b.num *ℤ pos a.den) rises) in
       let above : b.num *ℤ pos a.den ≡ a.num *ℤ pos b.den +ℤ pos d.0 = less-by (b.num *ℤ pos a.den) (a.num *ℤ pos b.den) d.0 d.1 in
-      let e : map (λ (v : Value). v.0) lows ≡ map (λ (v : Value). v.0) highs = al.attributes ∙ sym ah.attributes in
+      let e : map (λ (v : Value). v.0) lows ≡ map (λ (v : Value). v.0) highs = same_numbers p.stays (map (λ (v : Value). v.0) lows) (map (λ (v : Value). v.0) highs) al.attributes ah.attributes in
       elim (cases_eq d.0 0) [
         | inl none ↦
             let same : a ≡ b = same_fraction a b low high (sym (above ∙ no-way (a.num *ℤ pos b.den) d.0 none)) in

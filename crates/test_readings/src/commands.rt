@@ -138,6 +138,10 @@ fn put_budget(out: &mut String, exchanges: u64) -> Result<(), OutOfMemory> {
     Ok(writeln!(out, "budget {exchanges}")?)
 }
 
+fn put_sweep(out: &mut String, from: Frac, to: Frac) -> Result<(), OutOfMemory> {
+    put_numbers(out, "sweep width", from, to)
+}
+
 // Appends a format behind its group and its alignment.
 fn put_vfl(
     alloc: Global,
@@ -222,6 +226,7 @@ fn put_later(out: &mut String, command: &Command<'_>) -> Result<(), OutOfMemory>
         }
         Command::Unsize { name } => put_named(out, "unsize", name),
         Command::Keep { name } => put_named(out, "keep", name),
+        Command::Sweep { from, to } => put_sweep(out, *from, *to),
         _ => put_lone(out, lone_word(command)),
     }
 }

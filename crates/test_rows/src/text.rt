@@ -46,9 +46,11 @@ fn kind(word: KindWord) -> &'static str {
         KindWord::Object => "object",
         KindWord::Priority => "priority",
         KindWord::Weight => "weight",
-        KindWord::Window | KindWord::Suggested | KindWord::Sized | KindWord::Tree => {
-            "of another line"
-        }
+        KindWord::Window
+        | KindWord::Suggested
+        | KindWord::Sized
+        | KindWord::Tree
+        | KindWord::Sweep => { "of another line" }
     }
 }
 

@@ -4,85 +4,85 @@
 // - of its multipliers, as a conflict of its rows alone;
 // - for each of its rows, of the values without it: where each attribute is to stay at its own value, these
 //   are the best for the other rows exactly where they satisfy them.
-use crate::lines::{parts, push_named, push_stays_at_zero};
+use crate::lines::{Fronted, Named, push_stays, push_taken};
 use crate::tested::Checker;
-use crate::verdicts::put_verdict_of;
+use crate::verdicts::{Claimed, put_verdict_of};
 use frac_core::OutOfMemory;
 use std::alloc::Global;
 
-// The multipliers of a reply, as a claim.
-fn push_conflict(claim: &mut String, reply: &str) -> Result<(), OutOfMemory> {
-    writeln!(claim, "conflict")?;
-    for line in reply.lines() {
-        if line.starts_with("by ") {
-            writeln!(claim, "{line}")?;
-        }
-    }
-    Ok(())
+// A core, as the problem of its step and the reply tell it.
+#[derive(Clone, Copy)]
+struct Core<'a> {
+    step: &'a str,
+    reply: &'a str,
 }
 
-// Appends what the checker says of the multipliers.
-fn put_refuted<P: Checker>(
-    alloc: Global,
-    out: &mut String,
-    step: &str,
-    reply: &str,
-) -> Result<(), OutOfMemory> {
-    let mut text = String::new(alloc);
-    push_named(&mut text, step, reply, "core ", "")?;
-    push_stays_at_zero(&mut text, step)?;
-    push_conflict(&mut text, reply)?;
-    write!(out, "core ")?;
-    put_verdict_of::<P>(alloc, out, text.as_bytes(), b"")
+impl Core<'_> {
+    // Appends its rows, but for one.
+    fn push_rows(self, text: &mut String, but: &str) -> Result<(), OutOfMemory> {
+        let rows = Named {
+            lines: self.reply,
+            word: "core ",
+            but,
+        };
+        push_taken(text, self.step, &rows)
+    }
 }
 
-// Appends the stays of the attributes of values, each at its value.
-fn push_stays_at(text: &mut String, values: &str) -> Result<(), OutOfMemory> {
-    for line in values.lines() {
-        if let Some((attr, value)) = parts(line, "value ") {
-            writeln!(text, "stay {attr} {value}")?;
-        }
+// Its multipliers claim that its rows are a conflict.
+impl Claimed for Core<'_> {
+    fn push(&self, text: &mut String) -> Result<(), OutOfMemory> {
+        self.push_rows(text, "")?;
+        push_stays(text, self.step, "stay ", Some("0"))?;
+        text.push_str("conflict\n")?;
+        push_taken(text, self.reply, &Fronted("by "))
     }
-    Ok(())
 }
 
-// Values, as a claim.
-fn push_best(claim: &mut String, values: &str) -> Result<(), OutOfMemory> {
-    for line in values.lines() {
-        if line.starts_with("value ") {
-            writeln!(claim, "{line}")?;
-        }
+// A core without the row of a number, and the values that satisfy it.
+#[derive(Clone, Copy)]
+struct Without<'a> {
+    core: Core<'a>,
+    number: &'a str,
+    values: &'a str,
+}
+
+// The values claim to be the best.
+impl Claimed for Without<'_> {
+    fn push(&self, text: &mut String) -> Result<(), OutOfMemory> {
+        self.core.push_rows(text, self.number)?;
+        push_stays(text, self.values, "value ", None)?;
+        push_taken(text, self.values, &Fronted("value "))?;
+        Ok(text.push_str("best\n")?)
     }
-    Ok(writeln!(claim, "best")?)
 }
 
 // Appends what the checker says of the values without a row.
 fn put_without<P: Checker>(
     alloc: Global,
     out: &mut String,
-    step: &str,
-    reply: &str,
+    core: Core<'_>,
     part: &str,
 ) -> Result<(), OutOfMemory> {
     let (number, values) = part.split_once("\n").unwrap_or((part, ""));
-    let mut text = String::new(alloc);
-    push_named(&mut text, step, reply, "core ", number)?;
-    push_stays_at(&mut text, values)?;
-    push_best(&mut text, values)?;
     write!(out, "without {number} ")?;
-    put_verdict_of::<P>(alloc, out, text.as_bytes(), b"")
+    let without = Without {
+        core,
+        number,
+        values,
+    };
+    put_verdict_of::<P, _>(alloc, out, &without)
 }
 
 // Appends what the checker says of each part.
 fn put_withouts<P: Checker>(
     alloc: Global,
     out: &mut String,
-    step: &str,
-    reply: &str,
+    core: Core<'_>,
     rest: &str,
 ) -> Result<(), OutOfMemory> {
     for part in rest.split("\nwithout ") {
-        put_without::<P>(alloc, out, step, reply, part)?;
+        put_without::<P>(alloc, out, core, part)?;
     }
     Ok(())
 }
@@ -96,8 +96,10 @@ pub fn put_core<P: Checker>(
 ) -> Result<(), OutOfMemory> {
     match reply.split_once("\nwithout ") {
         Some((_, rest)) => {
-            put_refuted::<P>(alloc, out, step, reply)?;
-            put_withouts::<P>(alloc, out, step, reply, rest)
+            let core = Core { step, reply };
+            out.push_str("core ")?;
+            put_verdict_of::<P, _>(alloc, out, &core)?;
+            put_withouts::<P>(alloc, out, core, rest)
         }
         None => Ok(()),
     }

@@ -41,12 +41,6 @@ fn is_accepted<T: Talk>(
     is_yes_to(alloc, session, line, &problem)
 }
 
-// Appends a line that isn't accepted.
-fn put_another(out: &mut String, line: &str) -> Result<usize, OutOfMemory> {
-    writeln!(out, "another verdict on {line}")?;
-    Ok(0)
-}
-
 // Appends the line where it isn't accepted, and says how many of one line are.
 fn put_other<T: Talk>(
     alloc: Global,
@@ -54,11 +48,11 @@ fn put_other<T: Talk>(
     session: &mut T,
     line: &str,
 ) -> Result<usize, OutOfMemory> {
-    match is_accepted(alloc, session, line)? {
-        Some(false) => put_another(out, line),
-        Some(true) => Ok(1),
-        None => Ok(0),
+    let verdict = is_accepted(alloc, session, line)?;
+    if verdict == Some(false) {
+        writeln!(out, "another verdict on {line}")?;
     }
+    Ok(usize::from(verdict == Some(true)))
 }
 
 // The same of a line that is drawn now.

@@ -23,42 +23,37 @@ fn digit(seed: &mut u64) -> u64 {
     draw(seed, 9).saturating_add(1)
 }
 
-// A part below a factor, where one is wanted.
-fn put_part(line: &mut String, seed: &mut u64, is_wanted: bool) -> Result<(), OutOfMemory> {
-    if is_wanted {
-        let part = digit(seed);
-        write!(line, "/{part}")?;
-    }
-    Ok(())
-}
-
-// A factor, with a part below it or without.
-fn put_factor(line: &mut String, seed: &mut u64, has_part: bool) -> Result<(), OutOfMemory> {
-    let factor = digit(seed);
-    write!(line, "{factor}")?;
-    put_part(line, seed, has_part)
-}
-
-// A term: a factor, a view and one of its attributes.
-fn put_term(line: &mut String, seed: &mut u64, has_part: bool) -> Result<(), OutOfMemory> {
-    put_factor(line, seed, has_part)?;
+// Appends an attribute of one of three views.
+fn push_attr(line: &mut String, seed: &mut u64) -> Result<(), OutOfMemory> {
     let view = drawn(seed, &["a", "b", "c"]);
     let word = drawn(seed, &["left", "width", "right", "centerX"]);
-    Ok(write!(line, "*{view}.{word}")?)
+    Ok(write!(line, "{view}.{word}")?)
 }
 
-// A sum of two terms.
-fn put_sum(line: &mut String, seed: &mut u64) -> Result<(), OutOfMemory> {
-    put_term(line, seed, false)?;
-    line.push_str(" + ")?;
-    put_term(line, seed, true)
+// Appends the first term, with a factor.
+fn push_first(line: &mut String, seed: &mut u64) -> Result<(), OutOfMemory> {
+    let factor = digit(seed);
+    write!(line, "constrain g {factor}*")?;
+    push_attr(line, seed)
+}
+
+// Appends the second term, with a factor and a part below it.
+fn push_second(line: &mut String, seed: &mut u64) -> Result<(), OutOfMemory> {
+    let (factor, part) = (digit(seed), digit(seed));
+    write!(line, " + {factor}/{part}*")?;
+    push_attr(line, seed)
+}
+
+// Appends a sign and a constant.
+fn push_rest(line: &mut String, seed: &mut u64) -> Result<(), OutOfMemory> {
+    let sign = drawn(seed, &["==", "<=", ">="]);
+    let constant = draw(seed, 100);
+    Ok(write!(line, " {sign} {constant}")?)
 }
 
 /// Appends a required line over two of three views.
 pub fn push_line(line: &mut String, seed: &mut u64) -> Result<(), OutOfMemory> {
-    line.push_str("constrain g ")?;
-    put_sum(line, seed)?;
-    let sign = drawn(seed, &["==", "<=", ">="]);
-    let constant = draw(seed, 100);
-    Ok(write!(line, " {sign} {constant}")?)
+    push_first(line, seed)?;
+    push_second(line, seed)?;
+    push_rest(line, seed)
 }

@@ -19,6 +19,16 @@ pub fn row_number(line: &str) -> Option<&str> {
     }
 }
 
+/// The line of the row of this number, if there is one.
+pub fn row_of<'a>(problem: &'a str, number: &str) -> Option<&'a str> {
+    for line in problem.lines() {
+        if row_number(line) == Some(number) {
+            return Some(line);
+        }
+    }
+    None
+}
+
 /// Whether a line of these is the word with the number of a row behind it.
 pub fn is_named(lines: &str, word: &str, number: &str) -> bool {
     for line in lines.lines() {
@@ -29,30 +39,67 @@ pub fn is_named(lines: &str, word: &str, number: &str) -> bool {
     false
 }
 
-/// Appends the rows of a problem that lines name by this word, but for one.
-pub fn push_named(
-    text: &mut String,
-    problem: &str,
-    lines: &str,
-    word: &str,
-    but: &str,
-) -> Result<(), OutOfMemory> {
-    for line in problem.lines() {
-        match row_number(line) {
-            Some(number) if number != but && is_named(lines, word, number) => {
-                writeln!(text, "{line}")?;
-            }
-            _ => (),
+/// Appends a line.
+pub fn push_whole(text: &mut String, line: &str) -> Result<(), OutOfMemory> {
+    Ok(writeln!(text, "{line}")?)
+}
+
+/// Which lines are taken.
+pub trait Taken {
+    fn has(&self, line: &str) -> bool;
+}
+
+/// Appends those of the lines that are taken.
+pub fn push_taken<T: Taken>(text: &mut String, lines: &str, taken: &T) -> Result<(), OutOfMemory> {
+    for line in lines.lines() {
+        if taken.has(line) {
+            push_whole(text, line)?;
         }
     }
     Ok(())
 }
 
-/// Appends the stays of a problem, each at 0.
-pub fn push_stays_at_zero(text: &mut String, problem: &str) -> Result<(), OutOfMemory> {
-    for line in problem.lines() {
-        if let Some((attr, _)) = parts(line, "stay ") {
-            writeln!(text, "stay {attr} 0")?;
+/// The lines with this front.
+#[derive(Clone, Copy)]
+pub struct Fronted<'a>(pub &'a str);
+
+impl Taken for Fronted<'_> {
+    fn has(&self, line: &str) -> bool {
+        line.starts_with(self.0)
+    }
+}
+
+/// The rows that lines name by this word, but for one.
+#[derive(Clone, Copy)]
+pub struct Named<'a> {
+    pub lines: &'a str,
+    pub word: &'a str,
+    pub but: &'a str,
+}
+
+impl Taken for Named<'_> {
+    fn has(&self, line: &str) -> bool {
+        match row_number(line) {
+            Some(number) => number != self.but && is_named(self.lines, self.word, number),
+            None => false,
+        }
+    }
+}
+
+fn push_stay(text: &mut String, attr: &str, value: &str) -> Result<(), OutOfMemory> {
+    Ok(writeln!(text, "stay {attr} {value}")?)
+}
+
+/// Appends a stay for the attribute of each line with this word, at this value, or at that of the line.
+pub fn push_stays(
+    text: &mut String,
+    lines: &str,
+    word: &str,
+    at: Option<&str>,
+) -> Result<(), OutOfMemory> {
+    for line in lines.lines() {
+        if let Some((attr, value)) = parts(line, word) {
+            push_stay(text, attr, at.unwrap_or(value))?;
         }
     }
     Ok(())

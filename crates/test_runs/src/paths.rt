@@ -1,16 +1,17 @@
 // Scripts whose paths are judged.
 //
-// Each line that is refused with a path gives a line: its number, counted from 1; `probe`, `still` or `held`
-// where the path is that of a probe, of a removal with rows still held, or of a trial; `spent`, or the kind
-// of the quantity that doesn't fit; and what the word `check` says of the path beside the problem that it
-// speaks of. `probe target no path` stands where a probe's wish doesn't fit, so that there is no path.
+// Each line that is refused with a path gives a line: its number, counted from 1; `probe`, `still`, `held` or
+// `sweep` where the path is that of a probe, of a removal with rows still held, of a trial, or of a sweep;
+// `spent`, or the kind of the quantity that doesn't fit; and what the word `check` says of the path beside
+// the problem that it speaks of. `probe target no path` stands where a probe's wish doesn't fit, so that
+// there is no path.
 //
 // A refused line leaves its session as before, so what was held when the line came is what is held behind it.
 use crate::lines::text_of;
 use crate::posed::push_posed;
 use crate::stops::Stop;
 use crate::tested::{Answer, Kind, Talk};
-use crate::verdicts::put_verdict_of;
+use crate::verdicts::{Claimed, put_verdict_of};
 use frac_core::OutOfMemory;
 use std::alloc::Global;
 
@@ -29,28 +30,24 @@ fn problem_text(problem: &Answer) -> &str {
     }
 }
 
-// What is told of a session when a path is judged: the problem of the step, the problem that is held, and the
-// reply to `rows`, which tells the numbers of attributes.
+// What is told of a session when a path is judged: the path, the problem of the step, the problem that is
+// held, and the reply to `rows`, which tells the numbers of attributes.
 #[derive(Clone, Copy)]
 struct Told<'a> {
+    stop: Stop<'a>,
     step: &'a str,
     held: &'a str,
     rows: &'a str,
 }
 
-// Appends the verdict, where this is told.
-fn put_judged<T: Talk>(
-    alloc: Global,
-    out: &mut String,
-    stop: Stop<'_>,
-    told: Told<'_>,
-) -> Result<(), OutOfMemory> {
-    let mut problem = String::new(alloc);
-    push_posed(&mut problem, stop, told.step, told.held, told.rows)?;
-    put_verdict_of::<T>(alloc, out, problem.as_bytes(), stop.path.as_bytes())
+impl Claimed for Told<'_> {
+    fn push(&self, text: &mut String) -> Result<(), OutOfMemory> {
+        push_posed(text, self.stop, self.step, self.held, self.rows)?;
+        Ok(text.push_str(self.stop.claim())?)
+    }
 }
 
-// The same, where the problems alone are told.
+// Appends the verdict, where the problems are told.
 fn put_posed<T: Talk>(
     alloc: Global,
     out: &mut String,
@@ -60,8 +57,13 @@ fn put_posed<T: Talk>(
 ) -> Result<(), OutOfMemory> {
     let text = session.rows(alloc)?;
     let [step, held] = problems;
-    let rows = text_of(&text);
-    put_judged::<T>(alloc, out, stop, Told { step, held, rows })
+    let told = Told {
+        stop,
+        step,
+        held,
+        rows: text_of(&text),
+    };
+    put_verdict_of::<T, _>(alloc, out, &told)
 }
 
 // The same, where the problem of the step is told.

@@ -12,10 +12,8 @@ impl<'a> Stop<'a> {
     pub fn of(reply: &'a str) -> Option<Stop<'a>> {
         let (front, _) = reply.split_once("\npath ")?;
         let path = reply.strip_prefix(front)?.strip_prefix("\n")?;
-        match front.split_once("\n") {
-            Some((_, place)) => Some(Stop { place, path }),
-            None => Some(Stop { place: "", path }),
-        }
+        let (_, place) = front.split_once("\n").unwrap_or((front, ""));
+        Some(Stop { place, path })
     }
 
     /// The word of the place, with a blank behind it; none of the step.
@@ -26,6 +24,8 @@ impl<'a> Stop<'a> {
             "probe "
         } else if self.place.starts_with("held ") {
             "held "
+        } else if self.place.starts_with("sweep ") {
+            "sweep "
         } else {
             ""
         }
@@ -43,6 +43,14 @@ impl<'a> Stop<'a> {
         match self.quantity() {
             Some(quantity) => word_before(quantity),
             None => "spent",
+        }
+    }
+
+    /// The path as the word `check` reads it: a mark that turns where that doesn't fit is no quantity there.
+    pub fn claim(self) -> &'a str {
+        match self.path.split_once("unfit breakpoint ") {
+            Some((path, _)) => path,
+            None => self.path,
         }
     }
 

@@ -113,24 +113,6 @@ impl Runs<'_> {
     }
 }
 
-// Appends the status where it isn't the one before.
-fn put_changed(out: &mut String, status: &str, before: &str) -> Result<(), OutOfMemory> {
-    if status != before {
-        write!(out, " {status}")?;
-    }
-    Ok(())
-}
-
-// Appends how many bytes there are, and whether they are no front of the whole output.
-fn put_front(out: &mut String, text: &[u8], whole: &[u8]) -> Result<(), OutOfMemory> {
-    let count = text.len();
-    write!(out, " {count}")?;
-    if !whole.starts_with(text) {
-        out.push_str(" no front")?;
-    }
-    Ok(())
-}
-
 // A line of the table: its runs, and the one without a fault that they stand beside.
 #[derive(Clone, Copy)]
 struct Line<'a> {
@@ -139,6 +121,15 @@ struct Line<'a> {
 }
 
 impl Line<'_> {
+    // What stands behind the number of bytes where these are no front of the whole output.
+    fn front(self, ended: &Ended) -> &'static str {
+        if self.whole.text.starts_with(&ended.text) {
+            ""
+        } else {
+            " no front"
+        }
+    }
+
     // Appends how many bytes a run leaves, and its status where that isn't the one before. Gives the status.
     fn put_ended(
         self,
@@ -146,10 +137,14 @@ impl Line<'_> {
         ended: &Ended,
         before: &str,
     ) -> Result<&'static str, OutOfMemory> {
-        let status = ended.status;
-        put_changed(out, status, before)?;
-        put_front(out, &ended.text, &self.whole.text)?;
-        Ok(status)
+        let (blank, word) = if ended.status == before {
+            ("", "")
+        } else {
+            (" ", ended.status)
+        };
+        let (count, front) = (ended.text.len(), self.front(ended));
+        write!(out, "{blank}{word} {count}{front}")?;
+        Ok(ended.status)
     }
 
     // Appends what the run leaves that has its fault at this call, or so much room. Gives its status.
@@ -177,6 +172,20 @@ impl Line<'_> {
     }
 }
 
+// Appends what the runs of a line leave.
+fn put_beside<P: Program>(
+    alloc: Global,
+    out: &mut String,
+    runs: Runs<'_>,
+) -> Result<(), OutOfMemory> {
+    let whole = runs.with(Fault::Room).ended::<P>(alloc, AMPLE)?;
+    let line = Line {
+        runs,
+        whole: &whole,
+    };
+    line.put_runs::<P>(alloc, out)
+}
+
 // Appends a line of the table.
 fn put_line<P: Program>(
     alloc: Global,
@@ -185,12 +194,7 @@ fn put_line<P: Program>(
 ) -> Result<(), OutOfMemory> {
     let (size, word) = (runs.size, runs.fault.word());
     write!(out, "pulls of {size}, {word}:")?;
-    let whole = runs.with(Fault::Room).ended::<P>(alloc, AMPLE)?;
-    let line = Line {
-        runs,
-        whole: &whole,
-    };
-    line.put_runs::<P>(alloc, out)
+    put_beside::<P>(alloc, out, runs)
 }
 
 // Appends the lines of one size.

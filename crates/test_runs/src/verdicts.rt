@@ -1,63 +1,84 @@
 // What the checker says of the claims that answers print.
+use crate::lines::text_of;
 use crate::tested::{Answer, Checker, Kind};
 use edge_io::{MemorySink, MemorySource};
 use frac_core::OutOfMemory;
 use std::alloc::Global;
 use test_text::put_text;
 
-// Both texts, one behind the other.
-fn joined(alloc: Global, problem: &[u8], claim: &[u8]) -> Result<Vec<u8>, OutOfMemory> {
-    let mut text = problem.to_vec(alloc)?;
-    text.extend_from_slice(claim)?;
+/// A problem and a claim behind it, which the checker reads.
+pub trait Claimed {
+    /// Appends both.
+    fn push(&self, text: &mut String) -> Result<(), OutOfMemory>;
+}
+
+// The text of both.
+fn claim_text<C: Claimed>(alloc: Global, claimed: &C) -> Result<String, OutOfMemory> {
+    let mut text = String::new(alloc);
+    claimed.push(&mut text)?;
     Ok(text)
 }
 
 // The source of both.
-fn source_of(alloc: Global, problem: &[u8], claim: &[u8]) -> Result<MemorySource, OutOfMemory> {
-    let text = joined(alloc, problem, claim)?;
+fn source_of<C: Claimed>(alloc: Global, claimed: &C) -> Result<MemorySource, OutOfMemory> {
+    let text = claim_text(alloc, claimed)?.into_bytes();
     Ok(MemorySource::new(text, Vec::new(alloc), Vec::new(alloc)))
 }
 
-fn checked<P: Checker>(alloc: Global, source: &mut MemorySource) -> Result<Vec<u8>, OutOfMemory> {
+fn put_checked<P: Checker>(
+    alloc: Global,
+    out: &mut String,
+    source: &mut MemorySource,
+) -> Result<(), OutOfMemory> {
     let mut sink = MemorySink::new(alloc, 100, Vec::new(alloc))?;
     P::check(alloc, source, &mut sink);
-    Ok(sink.bytes().to_vec(alloc)?)
-}
-
-// What the checker says of a problem and a claim.
-fn verdict_of<P: Checker>(
-    alloc: Global,
-    problem: &[u8],
-    claim: &[u8],
-) -> Result<Vec<u8>, OutOfMemory> {
-    let mut source = source_of(alloc, problem, claim)?;
-    checked::<P>(alloc, &mut source)
+    put_text(out, sink.bytes())
 }
 
 /// Appends what the checker says of a problem and a claim.
-pub fn put_verdict_of<P: Checker>(
+pub fn put_verdict_of<P: Checker, C: Claimed>(
     alloc: Global,
     out: &mut String,
-    problem: &[u8],
-    claim: &[u8],
+    claimed: &C,
 ) -> Result<(), OutOfMemory> {
-    let verdict = verdict_of::<P>(alloc, problem, claim)?;
-    put_text(out, &verdict)
+    let mut source = source_of(alloc, claimed)?;
+    put_checked::<P>(alloc, out, &mut source)
 }
 
 // Whether the checker says yes to a problem and a claim.
-fn says_yes<P: Checker>(alloc: Global, problem: &[u8], claim: &[u8]) -> Result<bool, OutOfMemory> {
-    let verdict = verdict_of::<P>(alloc, problem, claim)?;
-    Ok(verdict.as_slice() == b"yes\n".as_slice())
+fn says_yes<P: Checker, C: Claimed>(alloc: Global, claimed: &C) -> Result<bool, OutOfMemory> {
+    let mut verdict = String::new(alloc);
+    put_verdict_of::<P, C>(alloc, &mut verdict, claimed)?;
+    Ok(verdict.as_str() == "yes\n")
 }
 
-// The multipliers of an answer, if it prints any, with the problem that they speak of: a certificate stands
-// with its own, a conflict speaks of that of its step.
-fn claim_of<'a>(problem: &'a [u8], answer: &'a Answer) -> Option<(&'a [u8], &'a [u8])> {
-    let text = answer.text.as_slice();
+// Multipliers, behind the problem that they speak of.
+#[derive(Clone, Copy)]
+struct Multipliers<'a> {
+    problem: &'a str,
+    claim: &'a str,
+}
+
+impl Claimed for Multipliers<'_> {
+    fn push(&self, text: &mut String) -> Result<(), OutOfMemory> {
+        text.push_str(self.problem)?;
+        Ok(text.push_str(self.claim)?)
+    }
+}
+
+// The multipliers of an answer, if it prints any: a certificate stands with its own problem, a conflict
+// speaks of that of its step.
+fn multipliers_of<'a>(problem: &'a [u8], answer: &'a Answer) -> Option<Multipliers<'a>> {
+    let text = text_of(&answer.text);
     match answer.kind {
-        Kind::Certificate => Some((b"".as_slice(), text)),
-        Kind::Conflict => Some((problem, text.strip_prefix(b"refused 6 ").unwrap_or(text))),
+        Kind::Certificate => Some(Multipliers {
+            problem: "",
+            claim: text,
+        }),
+        Kind::Conflict => Some(Multipliers {
+            problem: text_of(problem),
+            claim: text.strip_prefix("refused 6 ").unwrap_or(text),
+        }),
         _ => None,
     }
 }
@@ -69,8 +90,8 @@ pub fn put_verdict<P: Checker>(
     problem: &[u8],
     answer: &Answer,
 ) -> Result<(), OutOfMemory> {
-    match claim_of(problem, answer) {
-        Some((problem, claim)) => put_verdict_of::<P>(alloc, out, problem, claim),
+    match multipliers_of(problem, answer) {
+        Some(claimed) => put_verdict_of::<P, _>(alloc, out, &claimed),
         None => Ok(()),
     }
 }
@@ -81,8 +102,8 @@ pub fn is_yes<P: Checker>(
     problem: &[u8],
     answer: &Answer,
 ) -> Result<Option<bool>, OutOfMemory> {
-    match claim_of(problem, answer) {
-        Some((problem, claim)) => Ok(Some(says_yes::<P>(alloc, problem, claim)?)),
+    match multipliers_of(problem, answer) {
+        Some(claimed) => Ok(Some(says_yes::<P, _>(alloc, &claimed)?)),
         None => Ok(None),
     }
 }

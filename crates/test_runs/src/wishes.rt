@@ -1,5 +1,5 @@
 // The wish of a probe, and the problem with its row, as text.
-use crate::lines::parts;
+use crate::lines::{parts, push_whole};
 use frac_core::OutOfMemory;
 
 // The number of the attribute of this name.
@@ -66,26 +66,13 @@ impl Wish<'_> {
         }
     }
 
-    // Appends the value that is wished.
-    fn push_value(self, problem: &mut String) -> Result<(), OutOfMemory> {
-        match self.target.split_once("/") {
-            Some((num, den)) => {
-                let num = self.num(num, den);
-                Ok(write!(problem, "{num}/{den}")?)
-            }
-            None => {
-                let num = self.num(self.target, "1");
-                Ok(write!(problem, "{num}")?)
-            }
-        }
-    }
-
     // Appends the row of the wish.
     fn push_row(self, problem: &mut String, number: u32) -> Result<(), OutOfMemory> {
-        write!(problem, "row {number} 0 1 == 1 ")?;
-        self.push_value(problem)?;
-        let attr = self.attr;
-        Ok(writeln!(problem, " {attr}:1")?)
+        let (attr, target) = (self.attr, self.target);
+        let (num, den) = target.split_once("/").unwrap_or((target, "1"));
+        let wished = self.num(num, den);
+        let behind = target.strip_prefix(num).unwrap_or("");
+        Ok(writeln!(problem, "row {number} 0 1 == 1 {wished}{behind} {attr}:1")?)
     }
 }
 
@@ -94,7 +81,7 @@ pub fn push_wished(problem: &mut String, held: &str, wish: Wish<'_>) -> Result<(
     let Some((rows, stays)) = held.split_once("\nstay ") else {
         return Ok(());
     };
-    writeln!(problem, "{rows}")?;
+    push_whole(problem, rows)?;
     wish.push_row(problem, next_number(rows))?;
     Ok(write!(problem, "stay {stays}")?)
 }

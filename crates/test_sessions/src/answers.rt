@@ -24,6 +24,9 @@ fn push_stop(stop: &mut String, reply: &Result<Reply, Refusal>) -> Result<(), Ou
     match reply {
         Err(Refusal::Spent { place, path }) => push_path(stop, place, path),
         Err(Refusal::Overflow { place, at }) => push_path(stop, place, &at.path),
+        Err(Refusal::SweepOverflow { width, path, .. }) => {
+            push_path(stop, &StopPlace::Sweep(*width), path)
+        }
         _ => Ok(()),
     }
 }

@@ -16,7 +16,21 @@ fn version_of(heading: &str) -> Version {
     }
 }
 
-// Appends what the text below a heading leads to: the paths of a script, or the lines of a session.
+// Appends what a text leads to in a session: the paths of a script, or the lines.
+fn put_text_in(
+    alloc: Global,
+    out: &mut String,
+    heading: &str,
+    session: &mut Tested,
+    text: &[u8],
+) -> Result<(), OutOfMemory> {
+    match heading.starts_with("paths ") {
+        true => put_paths(alloc, out, session, text),
+        false => put_lines(alloc, out, session, text),
+    }
+}
+
+// Appends what the text below a heading leads to in a session of its own.
 fn put_text_below(
     alloc: Global,
     out: &mut String,
@@ -24,10 +38,7 @@ fn put_text_below(
     text: &[u8],
 ) -> Result<(), OutOfMemory> {
     let mut session = Tested::new(alloc, version_of(heading))?;
-    match heading.starts_with("paths ") {
-        true => put_paths(alloc, out, &mut session, text),
-        false => put_lines(alloc, out, &mut session, text),
-    }
+    put_text_in(alloc, out, heading, &mut session, text)
 }
 
 impl Cases for Headings {

@@ -13,16 +13,17 @@ use session_undo::{Refusal, Reply, Session};
 use std::alloc::Global;
 use test_runs::{Answer, Checker, Talk};
 
-/// A session.
+/// A session, in a box: it is large, and what owns it is proved at each of its ways out.
 #[derive(Drop)]
 pub struct Tested {
-    session: Session,
+    session: Box<Session>,
 }
 
 impl Tested {
     /// A session of this version that has taken no line.
     pub fn new(alloc: Global, version: Version) -> Result<Tested, OutOfMemory> {
         let session = Session::with_version(alloc, version)?;
+        let session = Box::new(alloc, session)?;
         Ok(Tested { session })
     }
 }

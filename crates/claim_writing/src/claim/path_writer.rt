@@ -7,7 +7,7 @@ ghost use Rattle.claim_writing.specs.Lines.{text_of_lines};
 ghost use Rattle.claim_writing.specs.PathTexts.{mark_text, in_line, swap_line, path_text, path_lines};
 ghost use Rattle.claim_writing.specs.PathTexts.{unfit_text, unfit_path_text, unfit_lines, kind_words};
 ghost use Rattle.claim_writing.specs.PathTexts.{what_text};
-ghost use Rattle.claim_writing.specs.PathTexts.{quantity_text};
+ghost use Rattle.claim_writing.specs.PathTexts.{breakpoint_text, quantity_text};
 ghost use Rattle.claim_writing.specs.Words.{line_of};
 
 use crate::claim::writer::{put_level_name, put_row_name};
@@ -226,5 +226,44 @@ pub fn unfit_text(at: &UnfitPath, out: &mut Vec<u8>) -> Result<(), OutOfMemory>
     ensures unchanged { OnErr result (out.new.items ≡ out.old.items) }
 {
     let text = unfit_apart(*out.allocator(), at)?;
+    Ok(out.extend_from_slice(text.as_bytes())?)
+}
+
+// The line of a quantity that doesn't fit, apart.
+fn quantity_apart(alloc: Global, quantity: Quantity) -> Result<String, OutOfMemory>
+    ensures { IfOk result (λ text. string_bytes text ≡ unfit_text quantity) }
+{
+    let mut text = String::new(alloc);
+    put_unfit(&mut text, quantity)?;
+    Ok(text)
+}
+
+// The line of a mark whose value is 0 where that doesn't fit, apart.
+fn breakpoint_apart(alloc: Global, mark: Mark) -> Result<String, OutOfMemory>
+    ensures { IfOk result (λ text. string_bytes text ≡ breakpoint_text mark) }
+{
+    let mut text = String::new(alloc);
+    write!(text, "unfit breakpoint ")?;
+    put_mark(&mut text, mark)?;
+    writeln!(text)?;
+    Ok(text)
+}
+
+/// Appends the line of a quantity that doesn't fit. After want of memory nothing was appended.
+pub fn quantity_text(quantity: Quantity, out: &mut Vec<u8>) -> Result<(), OutOfMemory>
+    ensures written { IfOk result (λ _. out.new.items ≡ out.old.items ++ unfit_text quantity) }
+    ensures unchanged { OnErr result (out.new.items ≡ out.old.items) }
+{
+    let text = quantity_apart(*out.allocator(), quantity)?;
+    Ok(out.extend_from_slice(text.as_bytes())?)
+}
+
+/// Appends the line of a mark whose value is 0 at a constant that doesn't fit. After want of memory nothing
+/// was appended.
+pub fn breakpoint_text(mark: Mark, out: &mut Vec<u8>) -> Result<(), OutOfMemory>
+    ensures written { IfOk result (λ _. out.new.items ≡ out.old.items ++ breakpoint_text mark) }
+    ensures unchanged { OnErr result (out.new.items ≡ out.old.items) }
+{
+    let text = breakpoint_apart(*out.allocator(), mark)?;
     Ok(out.extend_from_slice(text.as_bytes())?)
 }

@@ -24,6 +24,7 @@ ghost use Rattle.scenes.specs.Steps.{IsProblemOf};
 ghost use Rattle.scenes.specs.Moving.{AreChangesFor, MayLackChanges};
 ghost use Rattle.scenes.specs.Scene.{problem_of, with_direction, with_intrinsic, with_item, with_line};
 ghost use Rattle.scenes.specs.Scene.{with_kept, with_suggestion};
+ghost use Rattle.scenes.specs.Sweeping.{problem_here};
 ghost use Rattle.script_text.specs.declared.words.Direction.{Direction};
 
 use crate::scene::Scene;
@@ -216,6 +217,14 @@ impl Scene {
     {
         self.engine.show_layout(); // for the proof: what an engine keeps
         self.constants_problem(&intrinsic_changes(again))
+    }
+
+    /// The problem of the rows as they are, with the stays at the present values.
+    pub fn problem_here(&self) -> Result<Problem, OutOfMemory>
+        ensures { IfOk result (λ p. p ≡ problem_here self.now.scene) }
+    {
+        self.engine.show_layout(); // for the proof: what an engine keeps
+        self.constants_problem(&[])
     }
 
     /// The problem in another direction: the rows are as they are.

@@ -166,6 +166,9 @@ module _ (old : State) (scene : Scene) (End : Scene → Reply → State → Type
   carried (mean.Size name width height hug resist) Other h = carry-size name width height hug resist h
   carried (mean.Unsize name) Other h = carry-unsize name h
   carried (mean.Keep name) Other h = carry-keep name h
+  carried (mean.Sweep from to) Other (inl (h, is, same)) = absurd (refused (Wrong kind.Sweep) refl is)
+  carried (mean.Sweep from to) Other (inr (a, inl (h, is, same))) = absurd (refused (Limit word.Constant) refl is)
+  carried (mean.Sweep from to) Other (inr (a, inr (b, h))) = inr (a, inr (b, ended _ h))
 
 -- ---- causes
 
@@ -195,6 +198,9 @@ caused old (mean.Size name width height hug resist) End Other reply new h = size
 caused old (mean.Unsize name) End Other reply new h = unsize-causes old name End reply new h
 caused old (mean.Keep name) End Other reply new (inl h) = inl h
 caused old (mean.Keep name) End Other reply new (inr (a, (view, found, never))) = absurd never
+caused old (mean.Sweep from to) End Other reply new (inl h) = inl h
+caused old (mean.Sweep from to) End Other reply new (inr (a, inl h)) = inr (a, inl h)
+caused old (mean.Sweep from to) End Other reply new (inr (a, inr (b, never))) = absurd never
 
 -- ---- kinds
 
@@ -241,6 +247,7 @@ ends-for old (mean.Turn to) scene reply new h = h
 ends-for old (mean.Size name width height hug resist) scene reply new h = h
 ends-for old (mean.Unsize name) scene reply new h = h
 ends-for old (mean.Keep name) scene reply new h = h
+ends-for old (mean.Sweep from to) scene reply new h = absurd h
 
 -- ---- what a draft comes to
 
@@ -274,3 +281,4 @@ drafted-poses old (mean.Turn to) d p is of = carried old (drafted old.scene d) (
 drafted-poses old (mean.Size name width height hug resist) d p is of = carried old (drafted old.scene d) (PosesDraft p) Done old of (mean.Size name width height hug resist) (PosesScene old p) is.asks
 drafted-poses old (mean.Unsize name) d p is of = carried old (drafted old.scene d) (PosesDraft p) Done old of (mean.Unsize name) (PosesScene old p) is.asks
 drafted-poses old (mean.Keep name) d p is of = carried old (drafted old.scene d) (PosesDraft p) Done old of (mean.Keep name) (PosesScene old p) is.asks
+drafted-poses old (mean.Sweep from to) d p is of = absurd (not-plain d is.kind_is)

@@ -52,6 +52,7 @@ not-wrong views metrics l kind.Window usable wrong = wrong
 not-wrong views metrics l kind.Suggested usable wrong = wrong
 not-wrong views metrics l kind.Sized usable wrong = wrong
 not-wrong views metrics l kind.Tree usable wrong = wrong
+not-wrong views metrics l kind.Sweep usable wrong = wrong
 
 line-excludes : (views : List LiveView) (metrics : MetricList) (l : Linear) (n : ℕ) → Excludes (MayStop views metrics l n)
 line-excludes views metrics l n = record {

@@ -36,6 +36,7 @@ refuses F G refusal.NoEarlier to h = to _ h
 refuses F G (refusal.Overflow place at) to h = to _ h
 refuses F G (refusal.Spent place path) to h = to _ h
 refuses F G (refusal.NoTarget attr up) to h = to _ h
+refuses F G (refusal.SweepOverflow width path what) to h = to _ h
 refuses F G refusal.OutOfMemory to h = h
 
 -- the session with this scene and those before it

@@ -41,8 +41,11 @@ returns-in-Err-Refused-clause-stop c = λ first trail budget short.
     let next : List Mark = exchanged s c.args.c.now.marks in
     let same : c.swap.new.self ≡ c.args.c.now = search rules in
     let told : IsTrailOf true c.args.c.now.problem first c.args.trail.now c.args.c.now.marks → HasRun true c.args.c.now.problem first (c.args.trail.now.swaps ++ s ∷ []) next → IsUnfitStop c.args.c.now.problem next (Refused c.in-Err-Refused.quantity) → (most : ℕ) → length c.args.trail.now.swaps < most → IsStopOf true c.args.c.now.problem c.args.c.now.problem.rows (FromHere first) most c.unfit.result =
-    subst (λ (v : CornerView). IsTrailOf true v.problem first c.args.trail.now v.marks → HasRun true v.problem first (c.args.trail.now.swaps ++ s ∷ []) next → IsUnfitStop v.problem next (Refused c.in-Err-Refused.quantity) → (most : ℕ) → length c.args.trail.now.swaps < most → IsStopOf true v.problem v.problem.rows (FromHere first) most c.unfit.result) same (c.unfit.ensures true first next) in
+    subst (λ (v : CornerView). IsTrailOf true v.problem first c.args.trail.now v.marks → HasRun true v.problem first (c.args.trail.now.swaps ++ s ∷ []) next → IsUnfitStop v.problem next (Refused c.in-Err-Refused.quantity) → (most : ℕ) → length c.args.trail.now.swaps < most → IsStopOf true v.problem v.problem.rows (FromHere first) most c.unfit.result) same (c.unfit.ensures.after true first next) in
     told trail
     (swap_more c.args.c.now.problem first c.args.c.now.marks next c.args.trail.now.swaps s trail.swapped c.in_ok-enter.ensures.swap (same_self next))
     (search rules)
     budget short
+
+pub returns-in_ok-push-in-Ok-clause-swap : goal.returns-in_ok-push-in-Ok-clause-swap
+returns-in_ok-push-in-Ok-clause-swap c = (c.in_ok-enter.enter, c.in_ok-push-in-Ok.ensures.swaps)

@@ -15,7 +15,7 @@ returns-in_err-reply_text-clause-room c =
 pub returns-clause-put : goal.returns-clause-put
 returns-clause-put c =
     on_ok_as c.push_marked.result (λ put.
-    tells_as (λ (told : Reply). c.reply_text.new.out.items ≡ c.args.text.now.items ++ text_of c.args.session.now.scene told)
+    tells_as (λ (told : Reply). c.reply_text.new.out.items ≡ c.args.text.items ++ text_of c.args.session.now.scene told)
     (λ (told : Reply). c.push_marked.new.out.items ≡ c.args.out.now.items ++ marked c.args.mark.now (text_of c.args.session.now.scene told))
     c.args.reply.now
     (λ told text. put ∙ ap (λ (t : List ℕ). c.args.out.now.items ++ marked c.args.mark.now t) (c.deref.ensures.value ∙ (text ∙ ap (λ (front : List ℕ). front ++ text_of c.args.session.now.scene told) c.requires.empty)))
@@ -25,7 +25,7 @@ pub returns-clause-room : goal.returns-clause-room
 returns-clause-room c =
     λ change enough.
     let told : Tells (λ (told : Reply). c.reply_text.new.out.items ≡ text_of c.args.session.now.scene told) c.args.reply.now =
-    tells_as (λ (told : Reply). c.reply_text.new.out.items ≡ c.args.text.now.items ++ text_of c.args.session.now.scene told)
+    tells_as (λ (told : Reply). c.reply_text.new.out.items ≡ c.args.text.items ++ text_of c.args.session.now.scene told)
     (λ (told : Reply). c.reply_text.new.out.items ≡ text_of c.args.session.now.scene told)
     c.args.reply.now
     (λ told text. text ∙ ap (λ (front : List ℕ). front ++ text_of c.args.session.now.scene told) c.requires.empty)

@@ -18,13 +18,13 @@ returns-in_err-talk-clause-ends g c =
     end_as IsRunOf old old c.from_residual.result stop.OutOfMemory (exit.1 ∙ ap (λ (e : ScriptStop). Err e) exit.2)
     (nothing_answered IsRunOf (g.S.Source.left c.args.source.now) (g.K.Sink.held c.args.sink.now) no_run)
 
-pub answer_script-requires : goal.answer_script-requires
-answer_script-requires g c = record { asked = λ now held taken consumed answered. tt }
+pub answer_script-answered-requires : goal.answer_script-answered-requires
+answer_script-answered-requires g c = record { asked = λ now held taken consumed answered. tt }
 
 pub returns-clause-ends : goal.returns-clause-ends
 returns-clause-ends g c =
     let old : Outside = record { left = g.S.Source.left c.args.source.now; held = g.K.Sink.held c.args.sink.now; reads_failed = g.S.Source.faults c.args.source.now; writes_failed = g.K.Sink.faults c.args.sink.now } in
-    let new : Outside = record { left = g.S.Source.left c.answer_script.new.script; held = g.K.Sink.held c.answer_script.new.sink; reads_failed = g.S.Source.faults c.answer_script.new.script; writes_failed = g.K.Sink.faults c.answer_script.new.sink } in
+    let new : Outside = record { left = g.S.Source.left c.answer_script-answered.new.script; held = g.K.Sink.held c.answer_script-answered.new.sink; reads_failed = g.S.Source.faults c.answer_script-answered.new.script; writes_failed = g.K.Sink.faults c.answer_script-answered.new.sink } in
     let first : Talk = c.in_ok-talk.talk in
-    end_too (texts_of (by_talking (λ (t : Talk). t.responder)) first) IsRunOf old new c.answer_script.result
-    (is_run (λ (t : Talk). t.responder) first c.in_ok-talk.ensures.first c.in_ok-talk.ensures.unbegun) c.answer_script.ensures.ends
+    end_too (texts_of (by_talking (λ (t : Talk). t.responder)) first) IsRunOf old new c.answer_script-answered.result
+    (is_run (λ (t : Talk). t.responder) first c.in_ok-talk.ensures.first c.in_ok-talk.ensures.unbegun) c.answer_script-answered.ensures.ends

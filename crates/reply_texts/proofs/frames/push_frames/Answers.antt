@@ -1,5 +1,5 @@
 use Rattle.std.proofs.Common.{arith}
-use Rattle.reply_texts.specs.Replies.{frame_text}
+use Rattle.reply_texts.specs.Frames.{frame_text}
 use Rattle.reply_texts.proofs.EachView.{text_more, view_there}
 use Rattle.reply_texts.proofs.frames.push_frames.Goals as goal
 

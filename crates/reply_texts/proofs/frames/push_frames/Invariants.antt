@@ -1,5 +1,5 @@
 use Rattle.std.proofs.Common.{◌≡◌, ◌≤◌, ◌++◌, take, length, flat_map}
-use Rattle.reply_texts.specs.Replies.{frame_text}
+use Rattle.reply_texts.specs.Frames.{frame_text}
 use Rattle.reply_texts.proofs.frames.push_frames.Given as goal
 
 abbrev pub invariant-loop-place : goal.invariant-loop-place

@@ -5,7 +5,8 @@ use Rattle.edge_io.proofs.Moves.{appends_both}
 use Rattle.frac_core.specs.Fraction.{Fraction}
 use Rattle.view_tree.specs.Views.{LiveView}
 use Rattle.scenes.specs.Scene.{Scene}
-use Rattle.reply_texts.specs.Replies.{frame_text, frames_text, line_of}
+use Rattle.reply_texts.specs.Frames.{frame_text}
+use Rattle.reply_texts.specs.Replies.{frames_text, line_of}
 use Rattle.reply_texts.proofs.Printed.{each_more, each_all, front_at, puts_as, puts_err, puts_then}
 use Rattle.reply_texts.proofs.printing.print_frames.Goals as goal
 

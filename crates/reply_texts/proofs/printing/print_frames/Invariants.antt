@@ -1,6 +1,6 @@
 use Rattle.std.proofs.Common.{◌≡◌, ◌≤◌, take, length, flat_map}
 use Rattle.std.specs.Io.KnownBytes.{Appends}
-use Rattle.reply_texts.specs.Replies.{frame_text}
+use Rattle.reply_texts.specs.Frames.{frame_text}
 use Rattle.reply_texts.proofs.printing.print_frames.Given as goal
 
 abbrev pub invariant-loop-place : goal.invariant-loop-place

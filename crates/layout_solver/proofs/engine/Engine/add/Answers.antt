@@ -1,4 +1,4 @@
-use Rattle.std.proofs.Common.{rules, ◌++◌}
+use Rattle.std.proofs.Common.{rules}
 use Rattle.layout_solver.proofs.Changes.{changed_before, changed_earlier, changed_path, changed_solved, marked_is, marked_room, marked_values, marked_whole, refused_before, refused_same, refused_solved, refused_stop, refused_values, some_values}
 use Rattle.layout_solver.proofs.engine.Engine.add.Goals as goal
 
@@ -30,8 +30,8 @@ invariant_of-self-inside c = (
 pub invariant_of-self : goal.invariant_of-self
 invariant_of-self c =
     changed_solved c.self.inside.corner c.mark.new.self c.self.inside.values.0 c.self.inside.earlier c.args.self.now
-    (record { solved = c.self.invariant; view = c.self.view_is; scene = c.mark.ensures.scene; before = c.mark.ensures.before; room = c.requires.room }) c.extend-result.new.c c.in-Ok.ensures.before c.args.attrs.now (c.mark.new.self.problem.rows ++ c.args.rows.now) _ _
-    c.in-Ok.ensures.problem c.in-Ok.ensures.end.end c.in-Ok.ensures.end.listed c.show_corner.ensures.kept (search rules)
+    (record { solved = c.self.invariant; view = c.self.view_is; scene = c.mark.ensures.scene; before = c.mark.ensures.before; room = c.requires.room }) c.extend-result.new.c c.in-Ok.ensures.before _ _
+    c.in-Ok.ensures.end.end c.in-Ok.ensures.end.listed c.show_corner.ensures.kept (search rules)
 
 pub invariant_of-self-inside-in-Err : goal.invariant_of-self-inside-in-Err
 invariant_of-self-inside-in-Err c = (

@@ -1,5 +1,4 @@
-use Rattle.std.proofs.Common.{rules, []}
-use Rattle.layout_solver.specs.Shifts.{shifted}
+use Rattle.std.proofs.Common.{rules}
 use Rattle.layout_solver.proofs.Changes.{changed_before, changed_earlier, changed_solved, marked_columns, marked_near, marked_newest, marked_values, refused_before, refused_same, refused_solved, refused_values, shifted_is, shifted_path, shifted_stop, some_values}
 use Rattle.layout_solver.proofs.engine.Engine.shift.Goals as goal
 
@@ -36,8 +35,8 @@ invariant_of-self-inside c = (
 pub invariant_of-self : goal.invariant_of-self
 invariant_of-self c =
     changed_solved c.self.inside.corner c.mark.new.self c.self.inside.values.0 c.self.inside.earlier c.args.self.now
-    (record { solved = c.self.invariant; view = c.self.view_is; scene = c.mark.ensures.scene; before = c.mark.ensures.before; room = c.requires.room }) c.alter-result.new.c c.in-Ok.ensures.before [] (shifted c.args.to.now c.mark.new.self.problem.rows) _ _
-    c.in-Ok.ensures.problem c.in-Ok.ensures.end.end c.in-Ok.ensures.end.listed c.show_corner.ensures.kept (search rules)
+    (record { solved = c.self.invariant; view = c.self.view_is; scene = c.mark.ensures.scene; before = c.mark.ensures.before; room = c.requires.room }) c.alter-result.new.c c.in-Ok.ensures.before _ _
+    c.in-Ok.ensures.end.end c.in-Ok.ensures.end.listed c.show_corner.ensures.kept (search rules)
 
 pub invariant_of-self-inside-in-Err : goal.invariant_of-self-inside-in-Err
 invariant_of-self-inside-in-Err c = (

@@ -1,0 +1,83 @@
+// The best corner of a problem, found anew.
+ghost use Rattle.std.specs.Prelude.{◌≡◌, ◌<◌, [], length, false, IfOk, IfErr};
+ghost use Rattle.problem_core.specs.Layout as layout;
+ghost use Rattle.problem_core.specs.Kept.{IsWhole};
+ghost use Rattle.cert_core.specs.Stops.{IsStopOf};
+ghost use Rattle.corner.specs.Changes.{FromAdded};
+ghost use Rattle.corner_ends.specs.Runs.{HasEnded};
+ghost use Rattle.layout_solver.specs.Starts.{HasAdded, IsMarkedHere, as_problem};
+
+use crate::changing::join;
+use cert_core::RunStop;
+use corner::Corner;
+use frac_core::OutOfMemory;
+use problem_core::{Row, Stay};
+use std::alloc::Global;
+
+// Adds the attributes of these stays at their targets.
+fn add_stays(c: &mut Corner, stays: &[Stay]) -> Result<(), OutOfMemory>
+    requires marked { 0 < length c.old.before }
+    requires new { c.old.problem ≡ as_problem [] [] }
+    requires whole { IsWhole (as_problem [] stays.now) }
+    ensures problem { IfOk result (λ _. c.new.problem ≡ as_problem [] stays.now) }
+    ensures marks { IfOk result (λ _. c.new.marks ≡ c.old.marks) }
+    ensures before { c.new.before ≡ c.old.before }
+    ensures candidates { IfOk result (λ _. c.new.candidates ≡ c.old.candidates) }
+{
+    for stay in stays {
+        c.add_attr(stay.attr, stay.target)?;
+    }
+    Ok(())
+}
+
+// Gives the corner of nothing these stays and rows, goes on to the best corner, and marks it.
+fn fill(
+    alloc: Global,
+    c: &mut Corner,
+    stays: &[Stay],
+    rows: &[Row],
+    budget: u64,
+) -> Result<(), RunStop>
+    requires marked { 0 < length c.old.before }
+    requires new { c.old.problem ≡ as_problem [] [] }
+    requires none { c.old.marks ≡ [] }
+    requires whole { IsWhole (as_problem rows.now stays.now) }
+    ensures problem { IfOk result (λ _. c.new.problem ≡ as_problem rows.now stays.now) }
+    ensures end { IfOk result (λ _. HasEnded c.new) }
+    ensures marked { IfOk result (λ _. IsMarkedHere c.new) }
+    ensures path { IfOk result
+        (λ _. HasAdded (as_problem rows.now stays.now) [] rows.now budget c.new.marks) }
+    ensures stop { IfErr result (IsStopOf false (as_problem rows.now stays.now) []
+        (FromAdded (as_problem rows.now stays.now) [] rows.now) budget) }
+{
+    add_stays(c, stays)?;
+    c.show_corner(); // for the proof: what a corner keeps
+    join(alloc, c, rows, budget)?;
+    c.mark();
+    Ok(())
+}
+
+/// The best corner of the problem of these stays and rows, marked, to which a run leads from where all rows
+/// have joined, each with its mark that isn't negative at the targets of the stays.
+///
+/// The stops are those of `Engine::add` on an engine that holds nothing but these attributes at the targets.
+pub fn started(alloc: Global, stays: &[Stay], rows: &[Row], budget: u64) -> Result<Corner, RunStop>
+    requires whole { IsWhole (as_problem rows.now stays.now) }
+    ensures problem { IfOk result (λ c. c.problem ≡ as_problem rows.now stays.now) }
+    ensures end { IfOk result HasEnded }
+    ensures marked { IfOk result IsMarkedHere }
+    ensures path { IfOk result
+        (λ c. HasAdded (as_problem rows.now stays.now) [] rows.now budget c.marks) }
+    ensures stop { IfErr result (IsStopOf false (as_problem rows.now stays.now) []
+        (FromAdded (as_problem rows.now stays.now) [] rows.now) budget) }
+{
+    let mut corner = Corner::new(alloc)?;
+    corner.mark();
+    match fill(alloc, &mut corner, stays, rows, budget) {
+        Ok(()) => Ok(corner),
+        Err(stop) => {
+            drop(corner); // for the proof: moved on
+            Err(stop)
+        }
+    }
+}

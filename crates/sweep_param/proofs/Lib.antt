@@ -1,0 +1,13 @@
+pub mod Rising
+pub mod Rights
+pub mod Covers
+pub mod Assembled
+pub mod Halves
+pub mod Joined
+pub mod Ways
+pub mod Starting
+pub mod Stopping
+pub mod Constants
+pub mod Standing
+pub mod Answering
+pub mod Rewinding

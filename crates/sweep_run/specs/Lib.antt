@@ -1,0 +1,4 @@
+pub mod Told
+pub mod Ways
+pub mod Values
+pub mod Slides
