@@ -4,4 +4,4 @@ pub use Rattle.corner_table.specs.Views.{IsOutside, AreCandidates, IsNamed, IsSe
 pub use Rattle.corner_table.specs.Views.{IsWritten, MovesWith, owner_of, AreMovers, HasWriting, IsScaleOf}
 pub use Rattle.corner_table.specs.Views.{IsCoefficientOf, HasNumbers, IsReducedAt, IsInUse, IsStronger}
 pub use Rattle.corner_table.specs.Views.{IsLevelOf}
-pub use Rattle.corner_writings.specs.Fronts.{HasNoFront, IsFrontOf}
+pub use Rattle.corner_writings.specs.Fronts.{AreFrontsOf, HasNoFront, IsFoundOf, IsFrontOf}

@@ -713,6 +713,19 @@ fn put_lists(table: &mut Table, made: Exchange) -> Result<(), OutOfMemory>
     fill_slot(table, pair.side, entering)
 }
 
+/// Puts what an exchange makes of the lists, and lists no line.
+pub fn put_unlisted(table: &mut Table, made: Exchange) -> Result<(), OutOfMemory>
+    requires kept { IsKept (lists_of table.old) }
+    requires made { (s : Swap) × IsExchangeOf (lists_of table.old) made s }
+    ensures lists { OnOk result (lists_of table.new ≡ exchanged_lists (lists_of table.old) made) }
+    ensures kept { OnOk result (IsKept (lists_of table.new)) }
+    ensures marks { OnOk result (AreMarksAfter (lists_of table.old) made (lists_of table.new)) }
+    ensures before { lists_before table.new ≡ lists_before table.old }
+    ensures alike { AreAlike table.old → AreAlike table.new }
+{
+    put_lists(table, made)
+}
+
 /// Puts what an exchange makes of the lists.
 pub fn put_exchange(
     table: &mut Table,

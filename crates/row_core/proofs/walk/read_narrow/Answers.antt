@@ -3,7 +3,7 @@ use Rattle.std.specs.Int.{w64, w128}
 use Rattle.std.proofs.lemmas.Int.{to_z-of_z}
 use Rattle.row_core.specs.Walks.{AreRead, whole, whole_of}
 use Rattle.row_core.proofs.Walks.{floor_below}
-use Rattle.row_core.proofs.walk.NarrowWidth.next.Goals as goal
+use Rattle.row_core.proofs.walk.read_narrow.Goals as goal
 
 pub returns-clause-read : goal.returns-clause-read
 returns-clause-read c =

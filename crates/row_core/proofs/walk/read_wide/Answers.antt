@@ -3,17 +3,17 @@ use Rattle.std.specs.Int.{w64, w128}
 use Rattle.std.proofs.lemmas.Int.{to_z-of_z}
 use Rattle.row_core.specs.Walks.{AreRead, whole, whole_of}
 use Rattle.row_core.proofs.Walks.{floor_below}
-use Rattle.row_core.proofs.walk.WideWidth.next.Goals as goal
+use Rattle.row_core.proofs.walk.read_wide.Goals as goal
 
 pub total-requires-clause-left : goal.total-requires-clause-left
 total-requires-clause-left c =
     let left : SFits w64 c.in_ok-read.read.left = search rules in
-    simp to_z-of_z (c.in_ok-read.ensures.read.left.small c.args.sum.now.k c.requires.holds.left)
+    simp to_z-of_z (c.in_ok-read.ensures.read.left.small c.args.sum.now.k c.requires.products.left)
 
 pub total-requires-clause-right : goal.total-requires-clause-right
 total-requires-clause-right c =
     let right : SFits w64 c.in_ok-read.read.right = search rules in
-    simp to_z-of_z (c.in_ok-read.ensures.read.right.small c.args.sum.now.n c.requires.holds.right)
+    simp to_z-of_z (c.in_ok-read.ensures.read.right.small c.args.sum.now.n c.requires.products.right)
 
 pub returns-clause-read : goal.returns-clause-read
 returns-clause-read c =
