@@ -92,8 +92,8 @@ pub record HasRoomToProbe (old : State) : Type 0 where
 
 -- ---- sweeps
 
--- the widths are in lowest terms and fit, the problem with the present one is one that the types can hold, and
--- there is room to sweep the row of the width
+-- the widths are in lowest terms and fit, the problem with the present one is one that the types can hold,
+-- and there is room to sweep the row of the width
 pub record HasRoomToSweep (old : State) (from to : Fraction) : Type 0 where
   pub from_kept : IsKept from
   pub to_kept : IsKept to
