@@ -14,6 +14,13 @@
                                                   from 320 to 2000 (`sweep`), or a window of each of these (`windows`)
     python3 bench/scripts.py bends VIEWS WHAT     a row of views with preferred widths, and behind it nothing (`none`), or a sweep
                                                   of its widths from 0 to 100 times as many as there are views (`sweep`)
+    python3 bench/scripts.py deep VIEWS           a chain, and a row of each of 900 priorities on its widths
+    python3 bench/scripts.py flush VIEWS WHAT     a row of views without widths between the window's sides, and behind it nothing
+                                                  (`none`), or `diagnose`
+    python3 bench/scripts.py certify VIEWS        a chain and `certify`
+    python3 bench/scripts.py keep VIEWS NUMBER    a chain, and `keep` of the view of this number
+    python3 bench/scripts.py largest BYTES        of so many bytes: as many views as a session holds, wishes of eight widths each in
+                                                  half of them, and windows of two sizes in turn
 
 A chain has for each view a format with an optional width, for each two neighbours a format that stacks them and an optional
 constraint between their widths. Its numbers come from a linear congruence, so that the same words give the same script.
@@ -128,6 +135,48 @@ def bends(views, what):
         yield f"sweep width 0 {100 * views}"
 
 
+def deep(views):
+    yield from chain(draws(1), views)
+    for priority in range(1, 901):
+        yield f"constrain p{priority} v{1 + priority % views}.width == {priority % 130} @{priority}"
+    yield "frames"
+
+
+def flush(views, what):
+    yield "window 1000 600"
+    for i in range(1, views + 1):
+        yield f"view v{i}"
+    yield "vfl r H:|" + "".join(f"[v{i}]" for i in range(1, views + 1)) + "|"
+    if what == "diagnose":
+        yield "diagnose"
+
+
+def keep(views, number):
+    yield "layout 2"
+    yield from chain(draws(1), views)
+    yield f"keep v{number}"
+    yield "frames"
+
+
+def wish(draw, number, views):
+    terms = " + ".join(f"{1 + draw(9)}*v{1 + draw(views)}.width" for _ in range(8))
+    return f"constrain w{number} {terms} == {draw(3000)} @{1 + draw(900)}"
+
+
+def largest(size):
+    draw, views, length, number = draws(1), 199, 0, 0
+    for line in flush(views, "none"):
+        length += len(line) + 1
+        yield line
+    while length < size:
+        number += 1
+        is_wish = length < size // 2
+        line = wish(draw, number, views) if is_wish else f"window {1000 + number % 2} 600"
+        length += len(line) + 1
+        if length <= size:
+            yield line
+
+
 def main(words):
     match words:
         case ["chain", seed, views]:
@@ -152,6 +201,16 @@ def main(words):
             lines = widths(what)
         case ["bends", views, ("none" | "sweep") as what]:
             lines = bends(int(views), what)
+        case ["deep", views]:
+            lines = deep(int(views))
+        case ["flush", views, ("none" | "diagnose") as what]:
+            lines = flush(int(views), what)
+        case ["certify", views]:
+            lines = [*chain(draws(1), int(views)), "certify"]
+        case ["keep", views, number]:
+            lines = keep(int(views), int(number))
+        case ["largest", size]:
+            lines = largest(int(size))
         case _:
             sys.exit(__doc__)
     sys.stdout.writelines(line + "\n" for line in lines)

@@ -8,6 +8,7 @@
 # lays it down. KIWI is a python3 that has kiwisolver, as the package python3-kiwisolver brings it to Debian's python3;
 # it is python3 where it isn't given. For each number of views it prints the least time of a whole process of TURNS
 # (20), and the instructions where valgrind is there. The engines' own reading of the operations is taken off theirs.
+# Of kiwi also what its C++ takes alone, without python and the making of terms and constraints (kiwi_alone.py).
 set -eu
 here=$(cd "$(dirname "$0")" && pwd)
 program=${1:-$here/../../crates/layout/out/layout}
@@ -104,6 +105,7 @@ for views in 12 24 60 120; do
         report "kiwi" "$kiwi" "$here/kiwi_peer.py" "$work/operations"
         if [ "$has_valgrind" = yes ]; then
             count_without "kiwi" "$work/operations" "$kiwi" "$here/kiwi_peer.py"
+            echo "  kiwi, its C++ alone: $("$kiwi" "$here/kiwi_alone.py" "$work/operations") instructions"
         fi
     fi
 done
