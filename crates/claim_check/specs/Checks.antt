@@ -8,9 +8,9 @@ use Rattle.cert_checker.specs.declared.verdict.Verdict.{Verdict}
 use Rattle.cert_checker.specs.declared.verdict.Verdict.TheVariants.{Yes, No, NoRoom}
 use Rattle.cert_checker.specs.Certifying.{IsBestVerdict}
 use Rattle.cert_checker.specs.Refuting.{IsConflictVerdict}
-use Rattle.path_checker.specs.declared.verdict.PathVerdict.{PathVerdict}
-use Rattle.path_checker.specs.declared.verdict.PathVerdict.TheVariants as on_path
-use Rattle.path_checker.specs.PathClauses.{IsPathVerdict}
+use Rattle.path_claims.specs.declared.verdict.PathVerdict.{PathVerdict}
+use Rattle.path_claims.specs.declared.verdict.PathVerdict.TheVariants as on_path
+use Rattle.path_claims.specs.PathClauses.{IsPathVerdict}
 use Rattle.claim_writing.specs.declared.claim.Claim.{Claim}
 use Rattle.claim_writing.specs.declared.claim.Claim.TheVariants.{IsBest, IsConflict, IsPath}
 use Rattle.problem_reading.specs.Stops.{bad_line}

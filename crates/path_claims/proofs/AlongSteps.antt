@@ -11,17 +11,18 @@ use Rattle.problem_core.specs.Corners.{IsCorner, IsExchange, SameMarks, Swap, ex
 use Rattle.problem_core.specs.Changes.Paths.{IsEndOf, IsSound, MaySwap, last_marks}
 use Rattle.corner_laws.proofs.Rays.{rays_after}
 use Rattle.cert_core.specs.Paths.{Path}
-use Rattle.path_checker.specs.declared.spots.Step.{Step}
-use Rattle.path_checker.specs.PathClauses.{AreCalledFor}
-use Rattle.path_checker.specs.Room.{HasNoRoom}
-use Rattle.path_checker.specs.Route.{IsRoute, corner_after, over_marks}
-use Rattle.path_checker.specs.Sides.{AreSteps, IsWithin}
-use Rattle.path_checker.specs.Tables.{IsThere, line_count, swap_of}
-use Rattle.path_checker.specs.Walking.Ways.{IsBegun}
-use Rattle.path_checker.proofs.Walking.Following.{as_many, corner_there, exchanges_first, last_after, no_exchange_here, not_whole, step_at, take_next}
-use Rattle.path_checker.proofs.Iffs.{never_true, yes}
-use Rattle.path_checker.proofs.Places.{mark_is_there}
-use Rattle.path_checker.proofs.Walking.WaySteps.{IsCounting, begun_more, counts_there, some_apart}
+use Rattle.path_lines.specs.declared.spots.Step.{Step}
+use Rattle.path_claims.specs.PathClauses.{AreCalledFor}
+use Rattle.path_lines.specs.Room.{HasNoRoom}
+use Rattle.path_lines.specs.Route.{IsRoute, corner_after, over_marks}
+use Rattle.path_lines.specs.Sides.{AreSteps, IsWithin}
+use Rattle.path_lines.specs.Tables.{IsThere, line_count, swap_of}
+use Rattle.path_claims.specs.Ways.{IsBegun}
+use Rattle.path_claims.proofs.Walking.Following.{no_exchange_here, not_whole, take_next}
+use Rattle.path_lines.proofs.Walking.PlacedSwaps.{as_many, corner_there, exchanges_first, last_after, step_at}
+use Rattle.path_lines.proofs.Iffs.{never_true, yes}
+use Rattle.path_lines.proofs.Places.{mark_is_there}
+use Rattle.path_claims.proofs.Walking.WaySteps.{IsCounting, begun_more, counts_there, some_apart}
 use Rattle.path_levels.specs.declared.outline.Outline.{Outline}
 use Rattle.path_claims.specs.declared.stations.Station.{Station}
 use Rattle.path_claims.specs.declared.stations.Table.{Table}

@@ -1,5 +1,4 @@
 -- The corner where a route begins: what fits there, in which order, and the verdict there.
-pub mod FirstSums
 pub mod BegunParts
 pub mod SumOrders
 pub mod StartVerdicts

@@ -10,22 +10,23 @@ use Rattle.problem_core.specs.Kept.{IsWhole}
 use Rattle.problem_core.specs.Corners.{IsCorner, IsIn, Swap, exchanged, marks_of, place}
 use Rattle.problem_core.specs.Unfit.{over_mark}
 use Rattle.cert_core.specs.Paths.{Path}
-use Rattle.path_checker.specs.declared.spots.Spot.{Spot}
-use Rattle.path_checker.specs.declared.spots.Step.{Step}
-use Rattle.path_checker.specs.declared.way.WayStop.{WayStop}
-use Rattle.path_checker.specs.declared.way.WayStop.TheVariants.{Fails, NoRoom, OutOfMemory}
-use Rattle.path_checker.specs.Walking.Bringing.{IsBringing, NothingBrings}
-use Rattle.path_checker.specs.Route.{GivesWay, MayGiveWay, corner_after, over_marks}
-use Rattle.path_checker.specs.Sides.{IsWithin, moved_sides}
-use Rattle.path_checker.specs.Tables.{IsSpotOf, IsThere, line_count, names_of, swap_of}
-use Rattle.path_checker.specs.Walking.Ways.{AreFirstSides, IsBegun, IsMarkStop}
-use Rattle.path_checker.proofs.Walking.Bringing.{none_gives_way}
-use Rattle.path_checker.proofs.Walking.FirstCorner.{begins_there}
-use Rattle.path_checker.proofs.Places.{mark_is_there}
-use Rattle.path_checker.proofs.Walking.WayBegins.{mark_in, spot_is}
-use Rattle.path_checker.proofs.Walking.WaySteps.{IsCounting, already_inside, inside_by_sides, no_room_there, one_mark_more, some_apart}
-use Rattle.path_checker.proofs.MarkSides.Walks.{first_of_rest}
-use Rattle.path_checker.proofs.MarkSides.Pigeons.{corner_of_all}
+use Rattle.path_lines.specs.declared.spots.Spot.{Spot}
+use Rattle.path_lines.specs.declared.spots.Step.{Step}
+use Rattle.path_claims.specs.declared.way.WayStop.{WayStop}
+use Rattle.path_claims.specs.declared.way.WayStop.TheVariants.{Fails, NoRoom, OutOfMemory}
+use Rattle.path_claims.specs.Bringing.{IsBringing, NothingBrings}
+use Rattle.path_lines.specs.Route.{GivesWay, MayGiveWay, corner_after, over_marks}
+use Rattle.path_lines.specs.Sides.{IsWithin, moved_sides}
+use Rattle.path_lines.specs.Tables.{IsSpotOf, IsThere, line_count, names_of, swap_of}
+use Rattle.path_claims.specs.Ways.{AreFirstSides, IsBegun, IsMarkStop}
+use Rattle.path_lines.proofs.Walking.Bringing.{none_gives_way}
+use Rattle.path_lines.proofs.Walking.FirstCorner.{begins_there}
+use Rattle.path_lines.proofs.Places.{mark_is_there}
+use Rattle.path_claims.proofs.Walking.WayBegins.{mark_in}
+use Rattle.path_lines.proofs.Walking.PlacedSwaps.{spot_is}
+use Rattle.path_claims.proofs.Walking.WaySteps.{IsCounting, already_inside, inside_by_sides, no_room_there, one_mark_more, some_apart}
+use Rattle.path_lines.proofs.MarkSides.Walks.{first_of_rest}
+use Rattle.path_claims.proofs.MarkSides.Pigeons.{corner_of_all}
 use Rattle.path_levels.specs.declared.outline.Outline.{Outline}
 use Rattle.path_claims.specs.declared.journey.PathCase.{PathCase}
 use Rattle.path_claims.specs.declared.journey.Journey.{Journey}

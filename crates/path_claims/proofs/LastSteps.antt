@@ -11,29 +11,30 @@ use Rattle.problem_core.specs.Corners.{IsCorner, IsExchange, SameMarks, Swap, ex
 use Rattle.problem_core.specs.Changes.Paths.{IsSound, last_marks}
 use Rattle.cert_core.specs.Paths.{Path}
 use Rattle.cert_core.specs.Stops.{IsBefore}
-use Rattle.path_checker.specs.declared.spots.Step.{Step}
-use Rattle.path_checker.specs.declared.table.Inside.{Inside}
-use Rattle.path_checker.specs.declared.verdict.PathVerdict.{PathVerdict}
-use Rattle.path_checker.specs.declared.verdict.PathVerdict.TheVariants.{No}
-use Rattle.path_checker.specs.declared.way.WayStop.{WayStop}
-use Rattle.path_checker.specs.declared.way.WayStop.TheVariants.{Fails, NoRoom as NoRoomAfter, OutOfMemory}
-use Rattle.path_checker.specs.PathClauses.{AreApart, AreSound, AreSoundBefore, IsPathVerdict, row_of_terms}
-use Rattle.path_checker.specs.Room.{CountsAtEnd, HasNoRoom, IsPartOf}
-use Rattle.path_checker.specs.Route.{IsRoute, IsWholeRoute, corner_after, over_marks}
-use Rattle.path_checker.specs.Tables.{AreJudged, name_at, swap_of}
-use Rattle.path_checker.specs.Walking.Ways.{IsBegun, IsEnded, IsMarkStop, IsSwapStop}
-use Rattle.path_checker.proofs.Walking.FirstLines.{count_lines, row_name, stay_name}
-use Rattle.path_checker.proofs.Walking.WayBegins.{any_row, any_stay}
+use Rattle.path_lines.specs.declared.spots.Step.{Step}
+use Rattle.path_lines.specs.declared.table.Inside.{Inside}
+use Rattle.path_claims.specs.declared.verdict.PathVerdict.{PathVerdict}
+use Rattle.path_claims.specs.declared.verdict.PathVerdict.TheVariants.{No}
+use Rattle.path_claims.specs.declared.way.WayStop.{WayStop}
+use Rattle.path_claims.specs.declared.way.WayStop.TheVariants.{Fails, NoRoom as NoRoomAfter, OutOfMemory}
+use Rattle.path_claims.specs.PathClauses.{AreApart, AreSound, AreSoundBefore, IsPathVerdict, row_of_terms}
+use Rattle.path_lines.specs.Room.{CountsAtEnd, HasNoRoom, IsPartOf}
+use Rattle.path_lines.specs.Route.{IsRoute, IsWholeRoute, corner_after, over_marks}
+use Rattle.path_lines.specs.Tables.{AreJudged, name_at, swap_of}
+use Rattle.path_claims.specs.Ways.{IsBegun, IsEnded, IsMarkStop, IsSwapStop}
+use Rattle.path_lines.proofs.Walking.FirstLines.{count_lines, row_name, stay_name}
+use Rattle.path_claims.proofs.Walking.WayBegins.{any_row}
+use Rattle.path_lines.proofs.Places.{any_stay}
 use Rattle.path_claims.specs.declared.along.Walked.{Walked}
 use Rattle.path_claims.specs.declared.journey.PathCase.{PathCase}
 use Rattle.path_levels.specs.declared.outline.Outline.{Outline}
-use Rattle.path_claims.specs.declared.last.Fit.{Fit}
-use Rattle.path_claims.specs.declared.last.Fit.TheVariants.{Fits, Unfit, NoRoom}
-use Rattle.path_claims.specs.declared.last.Last.{Last}
+use Rattle.path_fits.specs.declared.last.Fit.{Fit}
+use Rattle.path_fits.specs.declared.last.Fit.TheVariants.{Fits, Unfit, NoRoom}
+use Rattle.path_fits.specs.declared.last.Last.{Last}
 use Rattle.path_claims.specs.declared.stations.Station.{Station}
 use Rattle.path_claims.specs.declared.stations.Table.{Table}
 use Rattle.path_levels.specs.declared.sums.LevelSum.{LevelSum}
-use Rattle.path_claims.specs.Fits.{IsFitAt, IsLastAfter, marks_after}
+use Rattle.path_fits.specs.Fits.{IsFitAt, IsLastAfter, marks_after}
 use Rattle.path_claims.specs.Journeys.{AreSoundAhead, IsOnRoute, IsPathCase}
 use Rattle.path_claims.specs.Judging.{IsFitFor, IsFound, IsSoundFrom, IsWalked, unjudged_from}
 use Rattle.path_levels.specs.Levels.{AreLevels}

@@ -1,7 +1,13 @@
-pub mod LastCorner
 pub mod Beginning
 pub mod MarkOrders
 pub mod StationTables
 pub mod JourneySteps
 pub mod AlongSteps
 pub mod LastSteps
+pub mod Walking
+pub mod Verdicts
+pub mod MarkSides
+pub mod CornerNumbers
+pub mod Results
+pub mod FirstClauses
+pub mod Examples

@@ -6,17 +6,17 @@ use Rattle.problem_core.specs.declared.stops.What.TheVariants.{Level as LevelOf}
 use Rattle.problem_core.specs.Layout.{Problem, lines as lines_of}
 use Rattle.problem_core.specs.Kept.{IsWhole}
 use Rattle.problem_core.specs.Corners.{IsExchange, exchanged}
-use Rattle.path_checker.specs.declared.spots.Step.{Step}
-use Rattle.path_checker.specs.declared.table.Inside.{Inside}
-use Rattle.path_checker.specs.Exchanges.Pivots.{HasUnfit, LeadTo, LeadToUnfit}
-use Rattle.path_checker.specs.Route.{over_marks}
-use Rattle.path_checker.specs.Tables.{AreLines, IsThere, line_count, swap_of}
-use Rattle.path_checker.proofs.Walking.FirstCorner.{begins_there}
+use Rattle.path_lines.specs.declared.spots.Step.{Step}
+use Rattle.path_lines.specs.declared.table.Inside.{Inside}
+use Rattle.path_lines.specs.Exchanges.Pivots.{HasUnfit, LeadTo, LeadToUnfit}
+use Rattle.path_lines.specs.Route.{over_marks}
+use Rattle.path_lines.specs.Tables.{AreLines, IsThere, line_count, swap_of}
+use Rattle.path_lines.proofs.Walking.FirstCorner.{begins_there}
 use Rattle.path_levels.specs.declared.outline.Outline.{Outline}
 use Rattle.path_levels.specs.declared.tableau.CornerLines.{CornerLines}
 use Rattle.path_claims.specs.declared.stations.Table.{Table}
 use Rattle.path_levels.specs.Outlines.{IsOutline}
-use Rattle.path_claims.specs.Fits.{AllAttrsFit}
+use Rattle.path_fits.specs.Fits.{AllAttrsFit}
 use Rattle.path_levels.specs.Levels.{AreLevels, HasUnfitLevel}
 use Rattle.path_levels.specs.Rows.{AreKept, IsLevelsStop, unfit_rows}
 use Rattle.path_claims.specs.Stations.{HasUnfitRows, IsStationBy, IsStuckAt, LeadsToTable, LeadsToUnfitTable}

@@ -4,12 +4,12 @@ use Rattle.problem_core.specs.declared.stops.Quantity.{Quantity}
 use Rattle.problem_core.specs.declared.stops.Quantity.TheVariants.{Plain, Terms, Rows, Shifts}
 use Rattle.problem_core.specs.Layout.{Problem, Row}
 use Rattle.problem_core.specs.Unfit.{IsUnfitAt, over_mark}
-use Rattle.path_checker.specs.declared.table.Inside.{Inside}
-use Rattle.path_checker.specs.Walking.FirstLines.{AreFirstLines}
+use Rattle.path_lines.specs.declared.table.Inside.{Inside}
+use Rattle.path_lines.specs.Walking.FirstLines.{AreFirstLines}
 use Rattle.cert_core.specs.Stops.{IsPartial}
-use Rattle.path_checker.specs.Room.{ComesBefore}
-use Rattle.path_checker.specs.Route.{over_marks}
-use Rattle.path_checker.specs.Tables.{AreSized}
+use Rattle.path_lines.specs.Room.{ComesBefore}
+use Rattle.path_lines.specs.Route.{over_marks}
+use Rattle.path_lines.specs.Tables.{AreSized}
 use Rattle.path_claims.specs.declared.begins.Begun.{Begun}
 use Rattle.path_claims.specs.declared.begins.Begun.TheVariants.{Whole, Until}
 use Rattle.path_levels.specs.declared.outline.Outline.{Outline}

@@ -6,14 +6,14 @@ use Rattle.problem_core.specs.Changes.Begins.{AreExchanges}
 use Rattle.problem_core.specs.Corners.{IsCorner, IsIn, SameMarks, Swap, exchanged, place}
 use Rattle.problem_core.specs.Changes.Paths.{IsEndOf, IsSound, MaySwap}
 use Rattle.cert_core.specs.Paths.{Path}
-use Rattle.path_checker.specs.declared.spots.Spot.{Spot}
-use Rattle.path_checker.specs.declared.spots.Step.{Step}
-use Rattle.path_checker.specs.declared.way.WayStop.{WayStop}
-use Rattle.path_checker.specs.declared.way.WayStop.TheVariants.{Fails, NoRoom, OutOfMemory}
-use Rattle.path_checker.specs.Route.{IsRoute, corner_after, over_marks}
-use Rattle.path_checker.specs.Tables.{AreSides, IsThere, line_count, mark_of, names_of, swap_of}
-use Rattle.path_checker.specs.Walking.Ways.{AreNew, IsBegun, IsBroughtBy, IsBroughtByNone, IsMarkStop}
-use Rattle.path_checker.specs.Walking.Ways.{IsRouteAt, IsShortPath}
+use Rattle.path_lines.specs.declared.spots.Spot.{Spot}
+use Rattle.path_lines.specs.declared.spots.Step.{Step}
+use Rattle.path_claims.specs.declared.way.WayStop.{WayStop}
+use Rattle.path_claims.specs.declared.way.WayStop.TheVariants.{Fails, NoRoom, OutOfMemory}
+use Rattle.path_lines.specs.Route.{IsRoute, corner_after, over_marks}
+use Rattle.path_lines.specs.Tables.{AreSides, IsThere, line_count, mark_of, names_of, swap_of}
+use Rattle.path_claims.specs.Ways.{AreNew, IsBegun, IsBroughtBy, IsBroughtByNone, IsMarkStop}
+use Rattle.path_claims.specs.Ways.{IsRouteAt, IsShortPath}
 use Rattle.path_levels.specs.declared.outline.Outline.{Outline}
 use Rattle.path_claims.specs.declared.journey.PathCase.{PathCase}
 use Rattle.path_claims.specs.declared.journey.Journey.{Journey}

@@ -8,13 +8,13 @@ use Rattle.problem_core.specs.Corners.{IsCorner, Swap}
 use Rattle.problem_core.specs.Changes.Paths.{IsSound}
 use Rattle.cert_core.specs.Paths.{Path}
 use Rattle.cert_core.specs.Stops.{AreNonnegativeBefore}
-use Rattle.path_checker.specs.PathClauses.{EndsInUnfit, HoldToApart, IsCalledFor, IsSoundPath, row_of_terms}
-use Rattle.path_checker.specs.Room.{HasNoRoom}
+use Rattle.path_claims.specs.PathClauses.{EndsInUnfit, HoldToApart, IsCalledFor, IsSoundPath, row_of_terms}
+use Rattle.path_lines.specs.Room.{HasNoRoom}
 use Rattle.path_claims.specs.declared.along.Walked.{Walked}
 use Rattle.path_claims.specs.declared.journey.PathCase.{PathCase}
 use Rattle.path_claims.specs.declared.stations.Station.{Station}
-use Rattle.path_claims.specs.declared.last.Fit.{Fit}
-use Rattle.path_claims.specs.declared.last.Fit.TheVariants.{Fits, Unfit, NoRoom}
+use Rattle.path_fits.specs.declared.last.Fit.{Fit}
+use Rattle.path_fits.specs.declared.last.Fit.TheVariants.{Fits, Unfit, NoRoom}
 use Rattle.path_claims.specs.Journeys.{AreSoundAhead, IsOnRoute}
 use Rattle.path_claims.specs.Stations.{IsUsableStation}
 

@@ -8,25 +8,25 @@ use Rattle.problem_core.specs.declared.stops.Quantity.TheVariants.{Plain, Terms,
 use Rattle.problem_core.specs.Layout.{Problem, Row, lines}
 use Rattle.problem_core.specs.Levels.{IsLevelAt}
 use Rattle.problem_core.specs.Unfit.{over_mark}
-use Rattle.path_checker.specs.Room.{ComesBefore, IsSumOf}
-use Rattle.path_checker.specs.Tables.{AreJudged}
-use Rattle.path_claims.specs.declared.orders.Place.{Place}
-use Rattle.path_claims.specs.declared.last.Fit.{Fit}
-use Rattle.path_claims.specs.declared.last.Fit.TheVariants.{Fits, Unfit, NoRoom}
+use Rattle.path_lines.specs.Room.{ComesBefore, IsSumOf}
+use Rattle.path_lines.specs.Tables.{AreJudged}
+use Rattle.path_claims.specs.declared.orders.SumAt.{SumAt}
+use Rattle.path_fits.specs.declared.last.Fit.{Fit}
+use Rattle.path_fits.specs.declared.last.Fit.TheVariants.{Fits, Unfit, NoRoom}
 
 -- the sum stands there: a row's by the row's number, a level's by the level's number
-abbrev pub IsPlaceOf : Problem → Quantity → Place → Type 0
-IsPlaceOf p (Plain what) place = ⊥
-IsPlaceOf p (Terms mark j) place = (place.is_rows ≡ false) × (mark ≡ over_mark place.at) × (j ≡ place.first)
-IsPlaceOf p (Rows level j) place = (place.is_rows ≡ true) × IsLevelAt p level place.at × (j ≡ place.first)
-IsPlaceOf p (Shifts what j) place = ⊥
+abbrev pub IsSumAt : Problem → Quantity → SumAt → Type 0
+IsSumAt p (Plain what) place = ⊥
+IsSumAt p (Terms mark j) place = (place.is_rows ≡ false) × (mark ≡ over_mark place.at) × (j ≡ place.first)
+IsSumAt p (Rows level j) place = (place.is_rows ≡ true) × IsLevelAt p level place.at × (j ≡ place.first)
+IsSumAt p (Shifts what j) place = ⊥
 
 -- it is of an earlier row or level, or of the same and sums fewer
-abbrev pub IsLower : Place → Place → Type 0
+abbrev pub IsLower : SumAt → SumAt → Type 0
 IsLower a b = (a.at < b.at) ⊎ ((a.at ≡ b.at) × (a.first < b.first))
 
 -- rows' sums before levels'
-abbrev pub Precedes : Place → Place → Type 0
+abbrev pub Precedes : SumAt → SumAt → Type 0
 Precedes a b = ((a.is_rows ≡ false) × (b.is_rows ≡ true)) ⊎ ((a.is_rows ≡ b.is_rows) × IsLower a b)
 
 -- the named quantity comes before the first sum that does not fit, is that one, or comes after it, or is no

@@ -3,8 +3,8 @@ use Rattle.std.specs.Prelude.{◌≡◌, ◌<◌, ℕ, []}
 use Rattle.problem_core.specs.Layout.{Problem}
 use Rattle.problem_core.specs.Corners.{IsCorner, SameMarks}
 use Rattle.cert_core.specs.Paths.{Path}
-use Rattle.path_checker.specs.Route.{over_marks}
-use Rattle.path_checker.specs.Tables.{IsUp, name_at}
+use Rattle.path_lines.specs.Route.{over_marks}
+use Rattle.path_lines.specs.Tables.{IsUp, name_at}
 
 -- the path has no swaps, and its corner is that where the route begins
 pub record IsAtStart (p : Problem) (path : Path) : Type 0 where

@@ -5,16 +5,16 @@ use Rattle.problem_core.specs.declared.parts.Level.{Level}
 use Rattle.problem_core.specs.Layout.{Problem}
 use Rattle.problem_core.specs.Corners.{IsExchange, exchanged}
 use Rattle.problem_core.specs.Unfit.{IsUnfitRows}
-use Rattle.path_checker.specs.declared.spots.Step.{Step}
-use Rattle.path_checker.specs.Walking.FirstLines.{HasUnfitFirst}
-use Rattle.path_checker.specs.Exchanges.Pivots.{HasUnfit}
-use Rattle.path_checker.specs.Route.{over_marks}
-use Rattle.path_checker.specs.Sides.{IsWithin}
-use Rattle.path_checker.specs.Tables.{AreSized, swap_of}
+use Rattle.path_lines.specs.declared.spots.Step.{Step}
+use Rattle.path_lines.specs.Walking.FirstLines.{HasUnfitFirst}
+use Rattle.path_lines.specs.Exchanges.Pivots.{HasUnfit}
+use Rattle.path_lines.specs.Route.{over_marks}
+use Rattle.path_lines.specs.Sides.{IsWithin}
+use Rattle.path_lines.specs.Tables.{AreSized, swap_of}
 use Rattle.path_levels.specs.declared.outline.Outline.{Outline}
 use Rattle.path_claims.specs.declared.stations.Station.{Station}
 use Rattle.path_claims.specs.declared.stations.Table.{Table}
-use Rattle.path_claims.specs.Fits.{AllAttrsFit}
+use Rattle.path_fits.specs.Fits.{AllAttrsFit}
 use Rattle.path_levels.specs.Levels.{AreLevels, AreSizedLevels}
 use Rattle.path_levels.specs.Rows.{AreKept}
 

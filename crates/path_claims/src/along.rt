@@ -4,17 +4,18 @@ ghost use Rattle.problem_core.specs.Changes.Begins.{AreExchanges};
 ghost use Rattle.problem_core.specs.Corners.{IsCorner, IsExchange};
 ghost use Rattle.problem_core.specs.Changes.Paths.{IsSound};
 ghost use Rattle.problem_core.specs.declared.parts.Mark.{Mark};
-ghost use Rattle.path_checker.specs.PathClauses.{IsCalledFor};
-ghost use Rattle.path_checker.specs.Sides.{AreSteps, IsWithin};
-ghost use Rattle.path_checker.specs.Tables.{line_count, swap_of};
-ghost use Rattle.path_checker.specs.Walking.Ways.{IsSwapStop};
+ghost use Rattle.path_claims.specs.PathClauses.{IsCalledFor};
+ghost use Rattle.path_lines.specs.Sides.{AreSteps, IsWithin};
+ghost use Rattle.path_lines.specs.Tables.{line_count, swap_of};
+ghost use Rattle.path_claims.specs.Ways.{IsSwapStop};
 ghost use Rattle.path_claims.specs.Journeys.{AreSoundAhead, IsCalledThere, IsOnRoute, IsPathCase};
 ghost use Rattle.path_claims.specs.Stations.{IsSizedTable, IsTableAt, IsUsableStation};
 
 use crate::journey::PathCase;
 use crate::stations::{Station, Table, station_after, table_now};
-use path_checker::{Step, WayStop, is_exchange, told};
+use crate::way::{WayStop, told};
 use path_levels::{is_end, is_sound, may_swap};
+use path_lines::{Step, is_exchange};
 use std::alloc::Global;
 
 /// What is kept of a path's last corner, whether all holds that has to at each corner before it, and whether

@@ -3,11 +3,11 @@ ghost use Rattle.std.specs.Prelude.{IfOk};
 ghost use Rattle.path_claims.specs.Begun.{IsBegun};
 ghost use Rattle.path_levels.specs.Outlines.{IsOutline, IsSizedOutline};
 
-use crate::firsts::row_lines;
 use crate::stations::Table;
 use frac_core::{OutOfMemory, Stop};
-use path_checker::{Inside, with_stays};
+use path_fits::row_lines;
 use path_levels::{CornerLines, Outline, first_levels};
+use path_lines::{Inside, with_stays};
 use problem_core::{Problem, Quantity};
 use std::alloc::Global;
 

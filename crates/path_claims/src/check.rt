@@ -4,26 +4,29 @@ ghost use Rattle.cert_core.specs.Paths.{Path};
 ghost use Rattle.problem_core.specs.Layout.{Problem};
 ghost use Rattle.problem_core.specs.declared.parts.Mark.{Mark};
 ghost use Rattle.problem_core.specs.declared.stops.Quantity.{Quantity};
-ghost use Rattle.path_checker.specs.PathClauses.{IsPathVerdict, row_of_terms};
-ghost use Rattle.path_checker.specs.Sides.{AreSteps};
-ghost use Rattle.path_checker.specs.Tables.{AreJudged};
-ghost use Rattle.path_checker.specs.Walking.Ways.{IsEnded, IsShortPath};
-ghost use Rattle.path_claims.specs.Fits.{IsLastAfter, IsSizedLast, marks_after};
+ghost use Rattle.path_claims.specs.PathClauses.{IsPathVerdict, row_of_terms};
+ghost use Rattle.path_lines.specs.Sides.{AreSteps};
+ghost use Rattle.path_lines.specs.Tables.{AreJudged};
+ghost use Rattle.path_claims.specs.Ways.{IsEnded, IsShortPath};
+ghost use Rattle.path_fits.specs.Fits.{IsLastAfter, IsSizedLast, marks_after};
 ghost use Rattle.path_claims.specs.Journeys.{IsPathCase};
 ghost use Rattle.path_claims.specs.Judging.{IsAtFirst, IsFound, IsSoundLast, IsWalked, unjudged_from};
 
 use crate::along::{Walked, is_sound_there, walk};
 use crate::journey::{PathCase, to_first};
-use crate::last::{Fit, Last, fit_after, has_no_negative_before_after, is_sound_after};
+use crate::route::{comes_twice, sides_of};
 use crate::start::check_at_start;
 use crate::stations::{Station, table_now};
+use crate::verdict::{
+    APART_CLAUSE, CALLED_CLAUSE, CORNER_CLAUSE, EXCHANGES_CLAUSE, PathVerdict, SOUND_CLAUSE,
+    UNFIT_CLAUSE,
+};
+use crate::way::{WayStop, told};
 use cert_core::Path;
 use frac_core::OutOfMemory;
-use path_checker::{
-    APART_CLAUSE, CALLED_CLAUSE, CORNER_CLAUSE, EXCHANGES_CLAUSE, PathVerdict, SOUND_CLAUSE, Step,
-    UNFIT_CLAUSE, WayStop, comes_twice, names, sides_of, steps_of, told,
-};
+use path_fits::{Fit, Last, fit_after, has_no_negative_before_after, is_sound_after};
 use path_levels::Outline;
+use path_lines::{Step, names, steps_of};
 use problem_core::{Problem, Quantity, RowName};
 use std::alloc::Global;
 

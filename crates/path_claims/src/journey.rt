@@ -2,21 +2,23 @@
 ghost use Rattle.std.specs.Prelude.{◌≡◌, ◌<◌, ◌≤◌, ◌+◌, ◌^◌, [], IfOk, IfErr, Some, length};
 ghost use Rattle.cert_core.specs.Paths.{Path};
 ghost use Rattle.problem_core.specs.Corners.{IsCorner};
-ghost use Rattle.path_checker.specs.Sides.{moved_sides};
-ghost use Rattle.path_checker.specs.Tables.{line_count};
-ghost use Rattle.path_checker.specs.Walking.Ways.{IsMarkStop};
-ghost use Rattle.path_checker.specs.declared.spots.Step.{Step};
+ghost use Rattle.path_lines.specs.Sides.{moved_sides};
+ghost use Rattle.path_lines.specs.Tables.{line_count};
+ghost use Rattle.path_claims.specs.Ways.{IsMarkStop};
+ghost use Rattle.path_lines.specs.declared.spots.Step.{Step};
 ghost use Rattle.path_levels.specs.declared.outline.Outline.{Outline};
 ghost use Rattle.path_claims.specs.Journeys.{Brings, BringsNone, HasOneMore, IsJourneyAt, IsPathCase};
 ghost use Rattle.path_claims.specs.Journeys.{IsOnRoute};
 ghost use Rattle.path_claims.specs.Journeys.{IsUsableJourney, StopsAt};
 ghost use Rattle.path_claims.specs.Stations.{IsUsableStation};
 
+use crate::route::{bringing_in, is_one, moved};
 use crate::stations::{Station, Table, station_after, table_now};
+use crate::way::{WayStop, first_sides, told};
 use cert_core::Path;
 use frac_core::OutOfMemory;
-use path_checker::{Spot, WayStop, bringing_in, first_sides, is_one, moved, spot_of, told};
 use path_levels::Outline;
+use path_lines::{Spot, spot_of};
 use problem_core::{Problem, RowName, Side};
 use std::alloc::Global;
 

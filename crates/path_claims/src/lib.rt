@@ -8,8 +8,8 @@
 //! check_path(alloc, &problem, &path, Some(Quantity::Plain(What::Attr(7))))?     // PathVerdict::Yes
 //! ```
 //!
-//! The route is made once, and all clauses are judged along it. A corner on it is a [`Station`]: its lines
-//! (`path_checker`) and the rows of its levels (`path_levels`), or those of the corner before it with the
+//! The route is made once, and all clauses are judged along it. A corner on it is a `Station`: its lines
+//! (`path_lines`) and the rows of its levels (`path_levels`), or those of the corner before it with the
 //! exchange that leads there.
 //!
 //! Linear programming's words: a corner is a basic solution, the marks inside are its basis, and an exchange
@@ -19,29 +19,33 @@
 //! or the dual ratio test, may choose it.
 //!
 //! What a station keeps: each number of its table fits. So do all numbers of a route's corners but those of
-//! the last one, which may be what the path is to show: there only what is asked for is made.
+//! the last one, which may be what the path is to show: there `path_fits` makes only what is asked for.
 //!
-//! In reading order: `check` (the verdict), `journey` and `along` (the route, by `stations`), `start` (a
-//! path that is the corner where the route begins, by `begins`, `firsts`, `orders`), `last` (the corner
-//! after the last exchange, at which not all has to fit, by its modules `fits`, `terms`, `rows_after`,
-//! `sums_after`, `line_sums`, `after`), `places` (of levels).
+//! The laws, each the contract of a function that does nothing, say that the clauses of a path together are
+//! the path, and that the words of the clauses hold of some paths and fail of others.
+//!
+//! In reading order: `verdict` (the answer, and the clauses by number), `check` (which clause fails first),
+//! `way` (what ends a route), `route` (which mark is brought in, and corners that come twice, by
+//! `numbering`), `journey` and `along` (the route, by `stations`), `start` (a path that is the corner where
+//! the route begins, by `begins`, `orders`), `laws`.
 #![tactic(auto)]
 
 mod along;
 mod begins;
 mod check;
-mod firsts;
 mod journey;
-mod last;
+mod laws;
+mod numbering;
 mod orders;
-mod places;
+mod route;
 mod start;
 mod stations;
+mod verdict;
+mod way;
 
-pub use along::{Walked, is_sound_there, walk};
 pub use check::check_path;
-pub use journey::{Journey, PathCase, to_first};
-pub use last::fits::attrs_fit;
-pub use last::{Fit, Last, fit_after, has_no_negative_before_after, is_sound_after};
-pub use start::check_at_start;
-pub use stations::{Station, Table, first_table, station_after, table_after, table_now};
+pub use laws::{path_is_its_clauses, some_paths_hold, yes_is_path};
+pub use verdict::{
+    APART_CLAUSE, CALLED_CLAUSE, CORNER_CLAUSE, EXCHANGES_CLAUSE, PathVerdict, SOUND_CLAUSE,
+    UNFIT_CLAUSE, constants_are_as_said,
+};

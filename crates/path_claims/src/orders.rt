@@ -6,19 +6,19 @@ ghost use Rattle.problem_core.specs.declared.parts.Level.TheVariants.{Priority, 
 ghost use Rattle.problem_core.specs.Layout.{Row};
 ghost use Rattle.problem_core.specs.Levels.{IsLevelAt};
 ghost use Rattle.problem_core.specs.Unfit.{over_mark};
-ghost use Rattle.path_checker.specs.Room.{IsSumOf};
-ghost use Rattle.path_checker.specs.PathClauses.{row_of_terms};
-ghost use Rattle.path_claims.specs.Orders.{IsFirstOf, IsFitBefore, IsJudgedTo, IsPlaceOf, IsSizeOf, Precedes};
+ghost use Rattle.path_lines.specs.Room.{IsSumOf};
+ghost use Rattle.path_claims.specs.PathClauses.{row_of_terms};
+ghost use Rattle.path_claims.specs.Orders.{IsFirstOf, IsFitBefore, IsJudgedTo, IsSumAt, IsSizeOf, Precedes};
 
-use crate::last::Fit;
-use path_checker::stay_of;
+use path_fits::Fit;
+use path_lines::stay_of;
 use problem_core::{
     FIRST_STAY_LEVEL, Level, Mark, Problem, Quantity, REQUIRED, Row, RowName, Side,
 };
 
 /// Where a sum stands: at the number of its row or level, by how many it sums.
 #[derive(Clone, Copy)]
-pub struct Place {
+pub struct SumAt {
     pub is_rows: bool,
     pub at: u32,
     pub first: u32,
@@ -68,27 +68,27 @@ fn level_number(p: &Problem, level: Level) -> Option<u32>
 }
 
 // Where a sum stands, unless it is none of the problem's.
-fn place_of(p: &Problem, sum: Quantity) -> Option<Place>
-    ensures some { IfSome result (IsPlaceOf p.now sum) }
+fn sum_at(p: &Problem, sum: Quantity) -> Option<SumAt>
+    ensures some { IfSome result (IsSumAt p.now sum) }
     ensures none { IfNone result (IsSumOf p.now sum → ⊥) }
 {
     match sum {
         Quantity::Terms { mark, first } => {
             let at = row_number(mark)?;
             let is_rows = false;
-            Some(Place { is_rows, at, first })
+            Some(SumAt { is_rows, at, first })
         }
         Quantity::Rows { level, first } => {
             let at = level_number(p, level)?;
             let is_rows = true;
-            Some(Place { is_rows, at, first })
+            Some(SumAt { is_rows, at, first })
         }
         _ => None,
     }
 }
 
-// Whether a place comes before another.
-fn is_before(a: Place, b: Place) -> bool
+// Whether a sum comes before another.
+fn is_before(a: SumAt, b: SumAt) -> bool
     ensures { IsTrue result ↔ Precedes a b }
 {
     if a.is_rows != b.is_rows {
@@ -164,10 +164,10 @@ pub fn fit_before(p: &Problem, named: Quantity, unfit: Quantity) -> Fit
     if !is_sum(p, named) {
         return Fit::NoRoom;
     }
-    let Some(at) = place_of(p, named) else {
+    let Some(at) = sum_at(p, named) else {
         return Fit::NoRoom;
     };
-    let Some(first) = place_of(p, unfit) else {
+    let Some(first) = sum_at(p, unfit) else {
         return Fit::NoRoom;
     };
     if is_before(at, first) {

@@ -1,8 +1,8 @@
 // The lines and levels of a corner of the route.
 ghost use Rattle.std.specs.Prelude.{◌≡◌, ◌<◌, ◌+◌, ◌^◌, List, IfOk, IfErr, Some, length};
 ghost use Rattle.problem_core.specs.declared.parts.Mark.{Mark};
-ghost use Rattle.path_checker.specs.Route.{over_marks};
-ghost use Rattle.path_checker.specs.Sides.{IsWithin};
+ghost use Rattle.path_lines.specs.Route.{over_marks};
+ghost use Rattle.path_lines.specs.Sides.{IsWithin};
 ghost use Rattle.frac_core.specs.Stops.{IsRefused};
 ghost use Rattle.path_levels.specs.Outlines.{IsOutline, IsSizedOutline};
 ghost use Rattle.path_levels.specs.Corners.{IsSizedCorner};
@@ -11,12 +11,12 @@ ghost use Rattle.path_levels.specs.Rows.{AreKept};
 ghost use Rattle.path_claims.specs.Stations.{HasUnfitRows, HasUnfitSum, IsSizedTable, IsStation, IsStuckAt};
 ghost use Rattle.path_claims.specs.Stations.{IsTableAt, IsUsableStation, LeadsToTable, LeadsToUnfitTable};
 
-use crate::last::fits::attrs_fit;
 use frac_core::{Stop, Unfit};
-use path_checker::{Inside, Step, SumStop, after_exchange, first_lines};
+use path_fits::attrs_fit;
 use path_levels::{
     CornerLines, LevelSum, LineExchange, Outline, Tableau, first_levels, next_levels,
 };
+use path_lines::{Inside, Step, SumStop, after_exchange, first_lines};
 use problem_core::Problem;
 use std::alloc::Global;
 

@@ -11,9 +11,9 @@ use Rattle.problem_core.specs.Kept.{IsWhole}
 use Rattle.problem_core.specs.Layout.{Line, Problem, Row, line_of_stay, lines}
 use Rattle.problem_core.specs.Levels.{IsLevelAt}
 use Rattle.problem_core.specs.Unfit.{IsUnfitRows}
-use Rattle.path_checker.specs.Room.{ComesBefore}
-use Rattle.path_checker.specs.declared.table.Inside.{Inside}
-use Rattle.path_checker.proofs.Walking.FirstLines.{count_lines, row_at}
+use Rattle.path_lines.specs.Room.{ComesBefore}
+use Rattle.path_lines.specs.declared.table.Inside.{Inside}
+use Rattle.path_lines.proofs.Walking.FirstLines.{count_lines, row_at}
 use Rattle.path_levels.specs.declared.outline.Outline.{Outline}
 use Rattle.path_levels.specs.declared.tableau.CornerLines.{CornerLines}
 use Rattle.path_levels.specs.declared.outline.LevelFacts.{LevelFacts}
@@ -25,8 +25,8 @@ use Rattle.path_levels.specs.Levels.{AreLevels}
 use Rattle.path_levels.specs.Rows.{AllRowsFit, AreFittingRows, AreKept, AreKeptOf, IsFirstOfAll, IsFirstUnfit, IsLevelsStop, IsRowsStop, IsRowsSum, RowsStop, level_size}
 use Rattle.path_levels.proofs.OutlineParts.{number_is, stay_at}
 use Rattle.path_levels.proofs.Parts.PartLines.{facts_at}
-use Rattle.path_checker.proofs.Places.{any_line}
-use Rattle.path_checker.proofs.Walking.WayBegins.{any_stay}
+use Rattle.path_lines.proofs.Places.{any_line}
+use Rattle.path_lines.proofs.Places.{any_stay}
 use Rattle.path_levels.proofs.Exchanges.MultipleFacts.{any_level}
 use Rattle.problem_core.proofs.RowNames.{held-not-stay as not_held, stay-same as same_attr}
 use Rattle.corner_lines.proofs.LevelRows.StayRows.{level_one as number_unique}

@@ -16,15 +16,15 @@ use Rattle.problem_core.specs.Certificates.{over_weight, under_weight}
 use Rattle.problem_core.specs.Kept.{IsRow, IsWhole}
 use Rattle.problem_core.specs.Layout.{Line, Problem, Row, line_of_row, line_of_stay, lines, stay_lines}
 use Rattle.problem_core.specs.Levels.{IsLevelAt}
-use Rattle.path_checker.specs.Tables.{line_count}
-use Rattle.path_checker.proofs.Walking.FirstLines.{count_lines, row_at, later_line}
+use Rattle.path_lines.specs.Tables.{line_count}
+use Rattle.path_lines.proofs.Walking.FirstLines.{count_lines, row_at, later_line}
 use Rattle.path_levels.specs.declared.outline.Outline.{Outline}
 use Rattle.path_levels.specs.declared.outline.LevelFacts.{LevelFacts}
 use Rattle.path_levels.specs.declared.outline.LineFacts.{LineFacts}
 use Rattle.path_levels.specs.Outlines.{AreFactsOf, IsFactsOf, IsOutline, IsSizedFacts, number_at}
 use Rattle.path_levels.specs.OutlineParts.{AreFactsTo, AreLevelsTo, AreRankLevels, HasNumber, IsRankLevel}
-use Rattle.path_checker.proofs.Places.{any_line}
-use Rattle.path_checker.proofs.Walking.WayBegins.{any_stay}
+use Rattle.path_lines.proofs.Places.{any_line}
+use Rattle.path_lines.proofs.Places.{any_stay}
 
 -- ---- numbers
 

@@ -1,7 +1,7 @@
 -- The sizes of what is kept of a corner.
 use Rattle.std.specs.Prelude.{◌≡◌, length}
-use Rattle.path_checker.specs.Sides.{IsWithin}
-use Rattle.path_checker.specs.Tables.{AreSized}
+use Rattle.path_lines.specs.Sides.{IsWithin}
+use Rattle.path_lines.specs.Tables.{AreSized}
 use Rattle.path_levels.specs.declared.levels_after.LineExchange.{LineExchange}
 use Rattle.path_levels.specs.declared.tableau.CornerLines.{CornerLines}
 use Rattle.path_levels.specs.declared.tableau.Tableau.{Tableau}

@@ -6,8 +6,8 @@ use Rattle.problem_core.specs.declared.parts.Side.TheVariants.{Under, Over}
 use Rattle.problem_core.specs.declared.parts.Mark.{Mark}
 use Rattle.problem_core.specs.Layout.{Problem}
 use Rattle.problem_core.specs.Corners.{HasNegativeColumn}
-use Rattle.path_checker.specs.Numbers.{number_at}
-use Rattle.path_checker.specs.Tables.{name_at}
+use Rattle.path_lines.specs.Numbers.{number_at}
+use Rattle.path_lines.specs.Tables.{name_at}
 use Rattle.path_levels.specs.declared.outline.LineFacts.{LineFacts}
 use Rattle.path_levels.specs.declared.sums.LevelSum.{LevelSum}
 use Rattle.path_levels.specs.declared.columns.Units.{Units}

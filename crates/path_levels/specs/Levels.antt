@@ -9,7 +9,7 @@ use Rattle.problem_core.specs.Levels.{HasNoLevelWriting}
 use Rattle.problem_core.specs.Unfit.{IsUnfitWhat}
 use Rattle.corner_lines.specs.LineEquations.{IsOutsideLine}
 use Rattle.corner_lines.specs.Levels.LevelFits.{IsFittingRow, IsLevelThere}
-use Rattle.path_checker.specs.Tables.{line_count, numbers_of}
+use Rattle.path_lines.specs.Tables.{line_count, numbers_of}
 use Rattle.path_levels.specs.declared.outline.Outline.{Outline}
 use Rattle.path_levels.specs.declared.sums.LevelSum.{LevelSum}
 use Rattle.path_levels.specs.Outlines.{number_at}

@@ -8,8 +8,8 @@ use Rattle.problem_core.specs.declared.parts.Mark.{Mark}
 use Rattle.problem_core.specs.Layout.{Problem}
 use Rattle.problem_core.specs.Levels.{HasNoLevelWriting}
 use Rattle.problem_core.specs.Unfit.{with_first_rows}
-use Rattle.path_checker.specs.declared.table.Inside.{Inside}
-use Rattle.path_checker.specs.Tables.{IsLineAt, IsThere, line_count, name_at}
+use Rattle.path_lines.specs.declared.table.Inside.{Inside}
+use Rattle.path_lines.specs.Tables.{IsLineAt, IsThere, line_count, name_at}
 use Rattle.path_levels.specs.declared.outline.Outline.{Outline}
 use Rattle.path_levels.specs.declared.outline.LineFacts.{LineFacts}
 use Rattle.path_levels.specs.declared.sums.LevelSum.{LevelSum}

@@ -1,7 +1,7 @@
 -- The level of the required rows at a corner, by what is kept.
 use Rattle.std.specs.Prelude.{◌≡◌, ℕ, ◌<◌, List, length, slice_index_or, Option, None, pos, ◌<ℤ◌}
 use Rattle.problem_core.specs.declared.parts.Side.{Side}
-use Rattle.path_checker.specs.declared.table.Inside.{Inside}
+use Rattle.path_lines.specs.declared.table.Inside.{Inside}
 use Rattle.path_levels.specs.declared.outline.Outline.{Outline}
 use Rattle.path_levels.specs.declared.outline.LineFacts.{LineFacts}
 use Rattle.path_levels.specs.declared.sums.LevelSum.{LevelSum}

@@ -7,9 +7,9 @@ use Rattle.problem_core.specs.declared.stops.Quantity.TheVariants.{Rows}
 use Rattle.problem_core.specs.Layout.{Problem, lines}
 use Rattle.problem_core.specs.Unfit.{IsUnfitRows}
 use Rattle.problem_core.specs.Levels.{IsLevelAt}
-use Rattle.path_checker.specs.declared.table.Inside.{Inside}
-use Rattle.path_checker.specs.Room.{ComesBefore}
-use Rattle.path_checker.specs.Tables.{AreLines, IsLineAt, IsThere, line_count, name_at}
+use Rattle.path_lines.specs.declared.table.Inside.{Inside}
+use Rattle.path_lines.specs.Room.{ComesBefore}
+use Rattle.path_lines.specs.Tables.{AreLines, IsLineAt, IsThere, line_count, name_at}
 use Rattle.path_levels.specs.declared.outline.Outline.{Outline}
 use Rattle.path_levels.specs.declared.outline.LineFacts.{LineFacts}
 use Rattle.path_levels.specs.declared.sums.LevelSum.{LevelSum}

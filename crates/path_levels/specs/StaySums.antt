@@ -1,7 +1,7 @@
 -- The row of a stay's level, as the stay is kept.
 use Rattle.std.specs.Prelude.{ℕ, pos, ◌*ℤ◌, Option, None, Some}
 use Rattle.frac_core.specs.Fraction.{IsFitting, IsKept}
-use Rattle.path_checker.specs.declared.table.Inside.{Inside}
+use Rattle.path_lines.specs.declared.table.Inside.{Inside}
 use Rattle.path_levels.specs.declared.sums.LevelSum.{LevelSum}
 use Rattle.path_levels.specs.Parts.{IsEmptySum, IsStaySum}
 

@@ -3,7 +3,7 @@ ghost use Rattle.std.specs.Prelude.{◌≡◌, ◌<◌, ◌^◌, ◌*ℤ◌, ◌
 ghost use Rattle.std.specs.Prelude.{All, IfOk};
 ghost use Rattle.std.specs.Int.{◌∣◌};
 ghost use Rattle.frac_core.specs.Fraction.{IsFitting};
-ghost use Rattle.path_checker.specs.Numbers.{IsFactor, number_at as in_list};
+ghost use Rattle.path_lines.specs.Numbers.{IsFactor, number_at as in_list};
 ghost use Rattle.path_levels.specs.Outlines.{IsPriced, IsSizedOutline};
 ghost use Rattle.path_levels.specs.Levels.{IsSizedLevel};
 ghost use Rattle.path_levels.specs.Shares.{IsScaled, before_of, entering_of, stood_of};
@@ -14,7 +14,7 @@ use crate::outline::{LineFacts, Outline};
 use crate::shares::stood_number;
 use crate::sums::{LevelRow, LevelSum};
 use frac_core::{OutOfMemory, gcd};
-use path_checker::{Pivot, Wide, combined};
+use path_lines::{Pivot, Wide, combined};
 use std::alloc::Global;
 
 // The entering line's number in the level's row before the exchange.

@@ -3,7 +3,7 @@
 ghost use Rattle.std.specs.Prelude.{◌≡◌, ◌↔◌, ◌<◌, ◌^◌, ◌<ℤ◌, ℕ, pos, length, get_or, unsigned_abs};
 ghost use Rattle.std.specs.Prelude.{IsTrue, [], false};
 ghost use Rattle.problem_core.specs.Corners.{HasNegativeColumn, NoNegativeColumn};
-ghost use Rattle.path_checker.specs.Tables.{mark_of};
+ghost use Rattle.path_lines.specs.Tables.{mark_of};
 ghost use Rattle.path_levels.specs.Outlines.{IsPriced};
 ghost use Rattle.path_levels.specs.Levels.{IsSizedLevel};
 ghost use Rattle.path_levels.specs.Corners.{HasSizedLevels};
@@ -17,7 +17,7 @@ use crate::outline::LineFacts;
 use crate::shares::weight_on;
 use crate::sums::{LevelRow, LevelSum};
 use crate::tableau::{CornerLines, Tableau};
-use path_checker::Spot;
+use path_lines::Spot;
 use problem_core::Side;
 
 /// The parts of a level's row that its costs are counted by.

@@ -3,8 +3,8 @@ ghost use Rattle.std.specs.Prelude.{◌≡◌, ◌↔◌, ◌<◌, ℕ, length, 
 ghost use Rattle.std.specs.Prelude.{All};
 ghost use Rattle.problem_core.specs.Corners.{IsIn, NoNegativeColumn, place_of};
 ghost use Rattle.corner_lines.specs.LineEquations.{IsOutsideLine};
-ghost use Rattle.path_checker.specs.Sides.{IsWithin};
-ghost use Rattle.path_checker.specs.Tables.{name_at};
+ghost use Rattle.path_lines.specs.Sides.{IsWithin};
+ghost use Rattle.path_lines.specs.Tables.{name_at};
 ghost use Rattle.path_levels.specs.Outlines.{IsPriced, IsSizedOutline};
 ghost use Rattle.path_levels.specs.Corners.{HasOutline, IsSizedExchange};
 ghost use Rattle.path_levels.specs.Levels.{AreSizedLevels};
@@ -15,13 +15,14 @@ ghost use Rattle.path_levels.specs.Exchanges.WideCosts.{AreNextWide, wide_cost};
 ghost use Rattle.path_levels.specs.declared.columns_after.WideLevel.{WideLevel as KeptWide};
 ghost use Rattle.path_levels.specs.Kept.{AfterStep, WithLevels, WithLines, WithOutline};
 
+use crate::carried::next_level_numbers;
 use crate::columns::{Units, cost};
 use crate::levels_after::LineExchange;
 use crate::outline::{LineFacts, Outline};
+use crate::pivots::pivot_of;
 use crate::sums::{LevelRow, LevelSum};
-use crate::{next_level_numbers, pivot_of};
 use frac_core::{OutOfMemory, Stop};
-use path_checker::{Inside, Pivot, Spot, Step, Wide};
+use path_lines::{Inside, Pivot, Spot, Step, Wide};
 use problem_core::Side;
 use std::alloc::Global;
 

@@ -6,15 +6,15 @@ ghost use Rattle.problem_core.specs.Corners.{IsExchange};
 ghost use Rattle.problem_core.specs.Levels.{CostsAbove};
 ghost use Rattle.problem_core.specs.Changes.Paths.{IsEndOf, IsSound, MaySwap, NoNegativeRequired};
 ghost use Rattle.problem_core.specs.declared.parts.Mark.{Mark};
-ghost use Rattle.path_checker.specs.Sides.{IsWithin};
-ghost use Rattle.path_checker.specs.Tables.{swap_of};
+ghost use Rattle.path_lines.specs.Sides.{IsWithin};
+ghost use Rattle.path_lines.specs.Tables.{swap_of};
 ghost use Rattle.path_levels.specs.Outlines.{IsPriced};
 ghost use Rattle.path_levels.specs.Corners.{HasOutline, HasSizedLevels};
 ghost use Rattle.path_levels.specs.Levels.{AreLevels, IsSizedLevel};
 ghost use Rattle.path_levels.specs.Rows.{AreKept};
 ghost use Rattle.path_levels.specs.Costs.{HasLine, cost_in};
 ghost use Rattle.path_levels.specs.Required.{HasRequired, IsBelow};
-ghost use Rattle.path_checker.specs.declared.table.Inside.{Inside as Kept};
+ghost use Rattle.path_lines.specs.declared.table.Inside.{Inside as Kept};
 ghost use Rattle.path_levels.specs.Kept.{WithFirstRow, WithTableau};
 
 use crate::columns::{cost_at, has_no_negative_column, is_negative_column};
@@ -22,7 +22,7 @@ use crate::outline::{LineFacts, Outline};
 use crate::sums::{LevelRow, LevelSum};
 use crate::tableau::{CornerLines, Tableau};
 use frac_core::Frac;
-use path_checker::{Inside, Spot, Step, has_no_negative_value, is_down};
+use path_lines::{Inside, Spot, Step, has_no_negative_value, is_down};
 use problem_core::Side;
 
 // Whether the strongest level is that of the required rows.

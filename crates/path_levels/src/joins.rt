@@ -3,8 +3,8 @@ ghost use Rattle.std.specs.Prelude.{◌≡◌, ◌*◌, ◌/◌, ◌<◌, ◌≤
 ghost use Rattle.std.specs.Prelude.{◌+ℤ◌, ◌-ℤ◌, ◌↔◌, IsTrue, unsigned_abs, length, IfOk, IfErr};
 ghost use Rattle.frac_core.specs.Stops.{IsRefused};
 ghost use Rattle.frac_core.specs.Fraction.{IsFitting};
-ghost use Rattle.path_checker.specs.Numbers.{IsCombined, IsFactor};
-ghost use Rattle.path_checker.specs.Tables.{IsSized, IsSizedLine};
+ghost use Rattle.path_lines.specs.Numbers.{IsCombined, IsFactor};
+ghost use Rattle.path_lines.specs.Tables.{IsSized, IsSizedLine};
 ghost use Rattle.path_levels.specs.Outlines.{IsPriced};
 ghost use Rattle.path_levels.specs.Levels.{IsSizedLevel};
 ghost use Rattle.path_levels.specs.Joins.{HasNoDraft, IsDraft, IsJoinedCost, IsJoinedList, IsRise};
@@ -21,7 +21,7 @@ use crate::outline::LineFacts;
 use crate::sums::LevelSum;
 use crate::tableau::CornerLines;
 use frac_core::{Frac, OutOfMemory, PART_BOUND, common_divisor};
-use path_checker::{Inside, Lowest, SumStop, Wide, combined, in_lowest_terms};
+use path_lines::{Inside, Lowest, SumStop, Wide, combined, in_lowest_terms};
 use problem_core::Side;
 use std::alloc::Global;
 

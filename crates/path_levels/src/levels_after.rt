@@ -4,7 +4,7 @@ ghost use Rattle.std.specs.Prelude.{length, false, IfOk, IfErr, IfSome, IfNone, 
 ghost use Rattle.std.specs.Prelude.{◌<ℤ◌, pos, unsigned_abs};
 ghost use Rattle.frac_core.specs.Stops.{IsRefused};
 ghost use Rattle.frac_core.specs.Fraction.{IsFitting};
-ghost use Rattle.path_checker.specs.Numbers.{IsFactor};
+ghost use Rattle.path_lines.specs.Numbers.{IsFactor};
 ghost use Rattle.path_levels.specs.Corners.{HasOutline, IsSizedExchange};
 ghost use Rattle.path_levels.specs.Outlines.{IsPriced};
 ghost use Rattle.path_levels.specs.Levels.{AreLevels, AreSizedLevels, HasUnfitLevel};
@@ -24,7 +24,7 @@ use crate::shares::{has_fitting_cost, stood_number};
 use crate::sums::{LevelRow, LevelSum};
 use crate::tableau::CornerLines;
 use frac_core::{Frac, PART_BOUND, Stop, Unfit};
-use path_checker::{Inside, Lowest, Pivot, Ratio, Step, SumStop, in_lowest_terms, number_of};
+use path_lines::{Inside, Lowest, Pivot, Ratio, Step, SumStop, in_lowest_terms, number_of};
 use problem_core::Side;
 use std::alloc::Global;
 

@@ -1,6 +1,6 @@
 //! What levels cost at the corners of a checked path: their rows, and what is judged by them.
 //!
-//! At a corner whose lines are kept (`path_checker`), a level is kept as one row of whole numbers over the
+//! At a corner whose lines are kept (`path_lines`), a level is kept as one row of whole numbers over the
 //! outside lines, a [`LevelSum`], in lowest terms and fitting. [`first_levels`] makes the rows line by line
 //! where a route begins, [`next_levels`] carries them over an exchange. [`is_sound`], [`is_end`] and
 //! [`may_swap`] judge a corner by them; `path_claims` puts these answers together to the check of a path.
@@ -20,8 +20,6 @@
 //! What a level's row keeps: one number a line, each below 2^42 in size, 0 at inside lines; its unit and its
 //! own number are above 0, and their product is below 2^42. Want of room is never silent: a row is refused
 //! only where no writing of it fits.
-//!
-//! It is the levels' part of one unit in three crates: all that is public here is for `path_claims` alone.
 //!
 //! In reading order: `outline` (lines and levels in order), `sums` (a level's row), `tableau` (a corner's
 //! lines and levels), `rows` (levels line by line, by `joins` and `stays`), `levels_after` (rows after an
@@ -44,14 +42,13 @@ mod stays;
 mod sums;
 mod tableau;
 
-pub use carried::next_level_numbers;
-pub use columns::{has_no_negative_column, is_negative_column};
+pub use columns::has_no_negative_column;
 pub use columns_after::has_no_negative_column_after;
 pub use ends::{is_end, is_sound, may_swap};
 pub use levels_after::{LineExchange, next_level, next_levels};
 pub use moved::moved_value;
 pub use outline::{LevelFacts, LineFacts, Outline};
 pub use pivots::pivot_of;
-pub use rows::{RowsStop, UnfitRows, first_levels, level_of_lines};
+pub use rows::{first_levels, level_of_lines};
 pub use sums::{LevelRow, LevelSum};
 pub use tableau::{CornerLines, Tableau};

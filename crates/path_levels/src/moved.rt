@@ -3,12 +3,12 @@ ghost use Rattle.std.specs.Prelude.{◌≡◌, ◌<◌, ◌≤◌, ◌^◌, ◌+
 ghost use Rattle.frac_core.specs.declared.frac.TheConstants.{PART_BOUND};
 ghost use Rattle.std.specs.Int.{IsGcd};
 ghost use Rattle.frac_core.specs.Fraction.{IsKept, IsRatio, IsUnfitRatio, sum_den, sum_num};
-ghost use Rattle.path_checker.specs.Numbers.{IsFactor};
+ghost use Rattle.path_lines.specs.Numbers.{IsFactor};
 ghost use Rattle.path_levels.specs.Exchanges.Moved.{IsLowestPart, joint_den, joint_num};
 ghost use Rattle.path_levels.specs.declared.moved.TheConstants.{NUM_ROOM};
 
 use frac_core::{Frac, PART_BOUND, Unfit, gcd, quotient};
-use path_checker::Ratio;
+use path_lines::Ratio;
 
 // A fraction in lowest terms.
 #[derive(Clone, Copy)]

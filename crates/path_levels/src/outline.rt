@@ -2,12 +2,12 @@
 ghost use Rattle.std.specs.Prelude.{◌≡◌, ◌≢◌, ◌<◌, true, false, length, All, Any, IfOk};
 ghost use Rattle.problem_core.specs.Layout.{line_of_row, rank_level};
 ghost use Rattle.problem_core.specs.declared.limits.TheConstants.{FIRST_STAY_LEVEL};
-ghost use Rattle.path_checker.specs.Tables.{line_count};
+ghost use Rattle.path_lines.specs.Tables.{line_count};
 ghost use Rattle.path_levels.specs.Outlines.{IsFactsOf, IsOutline, IsSizedOutline, number_at};
 ghost use Rattle.path_levels.specs.OutlineParts.{AreFactsTo, AreLevelsTo, AreRankLevels, HasNumber};
 
 use frac_core::OutOfMemory;
-use path_checker::weights;
+use path_lines::weights;
 use problem_core::{FIRST_STAY_LEVEL, Level, Problem, REQUIRED, Row, RowName, Stay};
 use std::alloc::Global;
 

@@ -2,16 +2,16 @@
 ghost use Rattle.std.specs.Prelude.{◌≡◌, ◌≢◌, ◌<◌, pos, length, set, true};
 ghost use Rattle.std.specs.Prelude.{IfOk, IfErr};
 ghost use Rattle.problem_core.specs.Corners.{IsExchange};
-ghost use Rattle.path_checker.specs.Numbers.{number_at};
-ghost use Rattle.path_checker.specs.Exchanges.Pivots.{IsSolvedFrom};
-ghost use Rattle.path_checker.specs.Sides.{IsWithin};
-ghost use Rattle.path_checker.specs.Tables.{AreSized, IsSized, swap_of};
+ghost use Rattle.path_lines.specs.Numbers.{number_at};
+ghost use Rattle.path_lines.specs.Exchanges.Pivots.{IsSolvedFrom};
+ghost use Rattle.path_lines.specs.Sides.{IsWithin};
+ghost use Rattle.path_lines.specs.Tables.{AreSized, IsSized, swap_of};
 ghost use Rattle.frac_core.specs.Stops.{IsRefused};
 ghost use Rattle.path_levels.specs.Exchanges.Pivots.{IsExchangePivot, IsSizedPivot, IsTurnedFrom};
 ghost use Rattle.path_levels.specs.Kept.{WithLines};
 
 use frac_core::{OutOfMemory, Stop, Unfit};
-use path_checker::{Inside, Pivot, Step, Sum, SumStop, solved_from};
+use path_lines::{Inside, Pivot, Step, Sum, SumStop, solved_from};
 use std::alloc::Global;
 
 // The list with another number at the place.

@@ -2,14 +2,14 @@
 ghost use Rattle.std.specs.Prelude.{◌≡◌, ◌↔◌, ◌*ℤ◌, pos, length, map, All, IsTrue, IfOk, IfErr, OnErr};
 ghost use Rattle.frac_core.specs.Fraction.{IsFitting, IsKept};
 ghost use Rattle.corner_lines.specs.Levels.StayLevels.{turned as turned_by};
-ghost use Rattle.path_checker.specs.Tables.{IsSized};
+ghost use Rattle.path_lines.specs.Tables.{IsSized};
 ghost use Rattle.frac_core.specs.Stops.{IsRefused};
 ghost use Rattle.path_levels.specs.Levels.{IsSizedLevel};
 ghost use Rattle.path_levels.specs.Parts.{IsStaySum};
 
 use crate::sums::LevelSum;
 use frac_core::{Frac, OutOfMemory, PART_BOUND, Stop, Unfit};
-use path_checker::{Inside, SumStop};
+use path_lines::{Inside, SumStop};
 use problem_core::Side;
 use std::alloc::Global;
 

@@ -2,7 +2,7 @@
 
 use crate::outline::Outline;
 use crate::sums::LevelSum;
-use path_checker::Inside;
+use path_lines::Inside;
 
 /// A corner's lines, and the outline of the problem whose lines they are.
 #[derive(Clone, Copy)]

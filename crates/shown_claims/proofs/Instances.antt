@@ -164,7 +164,7 @@ other-levels e = cc
 
 backward-kept : AreLevels backward
 backward-kept = record {
-  each = All-from_recursion IsLevel backward (record { place = tt; scale = omega arith; by = no-bys }, (record { place = omega arith; scale = omega arith; by = no-bys }, tt));
+  each = All-from_recursion IsLevel backward (record { ranked = tt; scale = omega arith; by = no-bys }, (record { ranked = omega arith; scale = omega arith; by = no-bys }, tt));
   apart = AllPairs-cons (λ (l m : BestLevel). l.level ≢ m.level) stay_level (weak_level ∷ []) (All-from_recursion (λ (m : BestLevel). StayLevel 1 ≢ m.level) (weak_level ∷ []) (other-levels, tt)) (λ i j d less within. absurd (omega (arith, less, within)));
 }
 

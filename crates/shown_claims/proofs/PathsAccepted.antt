@@ -28,10 +28,10 @@ use Rattle.corner_laws.proofs.UnfitWritten.{first-alike, first-rows}
 use Rattle.corner.specs.Views.{in_order}
 use Rattle.cert_checker.specs.declared.verdict.Verdict.{Verdict}
 use Rattle.certificates.specs.Accepted.{IsAccepted}
-use Rattle.path_checker.specs.declared.verdict.PathVerdict.{PathVerdict}
-use Rattle.path_checker.specs.declared.verdict.PathVerdict.TheVariants as on_path
-use Rattle.path_checker.specs.PathClauses.{AreShownSwaps, EndsInUnfit, HoldToCalled, IsPathVerdict, IsShownPath, held_number}
-use Rattle.path_checker.proofs.Verdicts.{path_is_its_clauses, yes_is_path}
+use Rattle.path_claims.specs.declared.verdict.PathVerdict.{PathVerdict}
+use Rattle.path_claims.specs.declared.verdict.PathVerdict.TheVariants as on_path
+use Rattle.path_claims.specs.PathClauses.{AreShownSwaps, EndsInUnfit, HoldToCalled, IsPathVerdict, IsShownPath, held_number}
+use Rattle.path_claims.proofs.Verdicts.{path_is_its_clauses, yes_is_path}
 use Rattle.problem_reading.specs.ProblemForms.{IsSmall}
 use Rattle.claim_writing.specs.declared.claim.Claim.TheVariants.{IsPath as PathClaim}
 use Rattle.claim_text.specs.Paths.PathForms.{IsQuantityWritten}

@@ -9,22 +9,22 @@ use Rattle.problem_core.specs.declared.stops.Quantity.TheVariants.{Plain, Terms,
 use Rattle.problem_core.specs.Kept.{IsWhole}
 use Rattle.problem_core.specs.Layout.{Problem, Row, lines}
 use Rattle.problem_core.specs.Unfit.{AreOverFrom, IsUnfitAt, IsUnfitTerms, over_mark}
-use Rattle.path_checker.specs.declared.table.Inside.{Inside}
-use Rattle.path_checker.specs.Walking.FirstLines.{IsRowOf}
+use Rattle.path_lines.specs.declared.table.Inside.{Inside}
+use Rattle.path_lines.specs.Walking.FirstLines.{IsRowOf}
 use Rattle.cert_core.specs.Stops.{IsPartial}
-use Rattle.path_checker.specs.Room.{ComesBefore}
-use Rattle.path_checker.specs.Route.{over_marks}
-use Rattle.path_checker.specs.Tables.{AreLines, AreSized}
-use Rattle.path_checker.proofs.Walking.FirstCorner.{begins_there}
-use Rattle.path_checker.proofs.Walking.FirstLines.{all_over, count_lines}
+use Rattle.path_lines.specs.Room.{ComesBefore}
+use Rattle.path_lines.specs.Route.{over_marks}
+use Rattle.path_lines.specs.Tables.{AreLines, AreSized}
+use Rattle.path_lines.proofs.Walking.FirstCorner.{begins_there}
+use Rattle.path_lines.proofs.Walking.FirstLines.{all_over, count_lines}
 use Rattle.path_levels.specs.declared.outline.Outline.{Outline}
 use Rattle.path_levels.specs.declared.sums.LevelSum.{LevelSum}
 use Rattle.path_claims.specs.Begun.{IsBegunUntil, IsWholeBegun}
-use Rattle.path_claims.specs.FirstSums.{AreMade, IsFirstUnfitSum, IsStopAt, IsUnfitSum}
+use Rattle.path_fits.specs.FirstSums.{AreMade, IsFirstUnfitSum, IsStopAt, IsUnfitSum}
 use Rattle.path_levels.specs.Outlines.{IsOutline}
 use Rattle.path_levels.specs.Levels.{AreLevels, AreSizedLevels}
 use Rattle.path_levels.specs.Rows.{AllRowsFit, AreKept, IsFirstOfAll}
-use Rattle.path_claims.proofs.Beginning.FirstSums.{over_number, same_row}
+use Rattle.path_fits.proofs.Beginning.FirstSums.{over_number, same_row}
 use Rattle.path_claims.proofs.StationTables.{outline_long as outline_count}
 
 -- ---- rows and their sums

@@ -14,9 +14,9 @@ use Rattle.corner_lines.specs.LineEquations.{IsLineEquation, IsLineSum, mark_for
 use Rattle.corner_lines.proofs.LevelRows.LevelJoins.{one-divides}
 use Rattle.corner_lines.proofs.Lines.LineWritings.{line_writing}
 use Rattle.corner_lines.proofs.Lines.MarkForms.{by-places}
-use Rattle.path_checker.specs.Route.{over_marks}
-use Rattle.path_checker.proofs.Walking.FirstLines.{attr_sum, units}
-use Rattle.path_claims.specs.Fits.{AllAttrsFit}
+use Rattle.path_lines.specs.Route.{over_marks}
+use Rattle.path_lines.proofs.Walking.FirstLines.{attr_sum, units}
+use Rattle.path_fits.specs.Fits.{AllAttrsFit}
 
 unit_fits : (b : Bool) → IsFitting (cond b (pos 1) (pos 0)) × IsFitting (neg_ℤ (cond b (pos 1) (pos 0)))
 unit_fits true = (omega arith, omega arith)

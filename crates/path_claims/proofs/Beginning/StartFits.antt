@@ -30,16 +30,16 @@ use Rattle.corner_laws.proofs.MarkWritings.Directions.{each-of}
 use Rattle.corner_lines.specs.LineEquations.{IsLineEquation, IsLineSum, mark_form}
 use Rattle.corner_lines.proofs.ProblemChanges.JoinedLines.{past-terms, same-writing}
 use Rattle.corner_lines.proofs.Lines.LineWritings.{line_writing}
-use Rattle.path_checker.specs.Walking.FirstLines.{IsRowOf}
+use Rattle.path_lines.specs.Walking.FirstLines.{IsRowOf}
 use Rattle.cert_core.specs.Stops.{IsPartial}
-use Rattle.path_checker.specs.Route.{over_marks}
-use Rattle.path_checker.specs.Tables.{name_at}
-use Rattle.path_checker.proofs.Walking.FirstCorner.{begins_there}
-use Rattle.path_checker.proofs.Walking.FirstLines.{attr_sum, units}
-use Rattle.path_claims.specs.FirstSums.{IsUnfitSum}
+use Rattle.path_lines.specs.Route.{over_marks}
+use Rattle.path_lines.specs.Tables.{name_at}
+use Rattle.path_lines.proofs.Walking.FirstCorner.{begins_there}
+use Rattle.path_lines.proofs.Walking.FirstLines.{attr_sum, units}
+use Rattle.path_fits.specs.FirstSums.{IsUnfitSum}
 use Rattle.path_claims.proofs.Beginning.SumOrders.{any_row}
 use Rattle.path_claims.proofs.Beginning.BegunParts.{told_unfit}
-use Rattle.path_claims.proofs.Beginning.FirstSums.{coefficients_fit}
+use Rattle.path_fits.proofs.Beginning.FirstSums.{coefficients_fit}
 use Rattle.problem_core.proofs.Sides.{zero-kept as zero_kept}
 use Rattle.problem_core.proofs.Lines.{under-none, over-none, weight-none as no_weight}
 

@@ -10,27 +10,27 @@ use Rattle.problem_core.specs.Corners.{IsCorner, SameMarks, Swap}
 use Rattle.problem_core.specs.Unfit.{IsUnfitAt, over_mark}
 use Rattle.cert_core.specs.Paths.{Path}
 use Rattle.cert_core.specs.Stops.{IsBefore}
-use Rattle.path_checker.specs.declared.table.Inside.{Inside}
-use Rattle.path_checker.specs.declared.verdict.PathVerdict.{PathVerdict}
-use Rattle.path_checker.specs.declared.verdict.PathVerdict.TheVariants.{Yes, No, NoRoom as NoRoomFor}
-use Rattle.path_checker.specs.Walking.FirstLines.{AreFirstLines}
-use Rattle.path_checker.specs.PathClauses.{AreSoundBefore, HoldToApart, IsPathVerdict, IsSoundPath, row_of_terms}
+use Rattle.path_lines.specs.declared.table.Inside.{Inside}
+use Rattle.path_claims.specs.declared.verdict.PathVerdict.{PathVerdict}
+use Rattle.path_claims.specs.declared.verdict.PathVerdict.TheVariants.{Yes, No, NoRoom as NoRoomFor}
+use Rattle.path_lines.specs.Walking.FirstLines.{AreFirstLines}
+use Rattle.path_claims.specs.PathClauses.{AreSoundBefore, HoldToApart, IsPathVerdict, IsSoundPath, row_of_terms}
 use Rattle.cert_core.specs.Stops.{IsPartial}
-use Rattle.path_checker.specs.Room.{ComesBefore, CountsAtEnd, HasNoRoom, IsSumOf}
-use Rattle.path_checker.specs.Route.{GoesBy, over_marks}
-use Rattle.path_checker.specs.Tables.{AreJudged, IsThere, IsUp, line_count, name_at}
-use Rattle.path_checker.proofs.Walking.FirstCorner.{begins_there}
-use Rattle.path_checker.proofs.Walking.FirstLines.{count_lines, outside_line, row_name}
-use Rattle.path_checker.proofs.Iffs.{never_true, yes}
-use Rattle.path_checker.proofs.Arithmetic.ValueSigns.{all_up, judged_all, judged_is_up, outside_is_up, up_at_all}
-use Rattle.path_claims.specs.declared.last.Fit.{Fit}
-use Rattle.path_claims.specs.declared.last.Fit.TheVariants.{Fits, Unfit, NoRoom}
+use Rattle.path_lines.specs.Room.{ComesBefore, CountsAtEnd, HasNoRoom, IsSumOf}
+use Rattle.path_lines.specs.Route.{GoesBy, over_marks}
+use Rattle.path_lines.specs.Tables.{AreJudged, IsThere, IsUp, line_count, name_at}
+use Rattle.path_lines.proofs.Walking.FirstCorner.{begins_there}
+use Rattle.path_lines.proofs.Walking.FirstLines.{count_lines, outside_line, row_name}
+use Rattle.path_lines.proofs.Iffs.{never_true, yes}
+use Rattle.path_lines.proofs.Arithmetic.ValueSigns.{all_up, judged_all, judged_is_up, outside_is_up, up_at_all}
+use Rattle.path_fits.specs.declared.last.Fit.{Fit}
+use Rattle.path_fits.specs.declared.last.Fit.TheVariants.{Fits, Unfit, NoRoom}
 use Rattle.path_levels.specs.declared.outline.Outline.{Outline}
 use Rattle.path_levels.specs.declared.sums.LevelSum.{LevelSum}
 use Rattle.path_claims.specs.Begun.{IsBegunUntil, IsWholeBegun, Reaches}
 use Rattle.path_claims.specs.Orders.{IsFitBefore, IsJudgedTo}
 use Rattle.path_claims.specs.Starts.{AreUpTo, IsAtStart}
-use Rattle.path_claims.proofs.Beginning.FirstSums.{over_number}
+use Rattle.path_fits.proofs.Beginning.FirstSums.{over_number}
 use Rattle.path_claims.proofs.Beginning.StartFits.{all_fit}
 use Rattle.path_claims.proofs.Beginning.SumOrders.{any_row}
 use Rattle.path_claims.proofs.MarkOrders.{before_same, unfit_same}

@@ -16,16 +16,16 @@ use Rattle.problem_core.specs.Layout.{Line, Problem, Row, line_of_row, line_of_s
 use Rattle.problem_core.specs.Levels.{IsLevelAt}
 use Rattle.problem_core.specs.Unfit.{over_mark}
 use Rattle.cert_core.specs.Stops.{IsBefore}
-use Rattle.path_checker.specs.Room.{ComesBefore, IsSumOf}
-use Rattle.path_checker.specs.PathClauses.{held_number, row_of_terms}
-use Rattle.path_checker.specs.Tables.{AreJudged, name_at}
-use Rattle.path_checker.proofs.Walking.FirstLines.{count_lines, row_name, stay_name}
-use Rattle.path_claims.specs.declared.orders.Place.{Place}
-use Rattle.path_claims.specs.Orders.{IsJudgedTo, IsLower, IsPlaceOf, IsSizeOf, Precedes}
+use Rattle.path_lines.specs.Room.{ComesBefore, IsSumOf}
+use Rattle.path_claims.specs.PathClauses.{held_number, row_of_terms}
+use Rattle.path_lines.specs.Tables.{AreJudged, name_at}
+use Rattle.path_lines.proofs.Walking.FirstLines.{count_lines, row_name, stay_name}
+use Rattle.path_claims.specs.declared.orders.SumAt.{SumAt}
+use Rattle.path_claims.specs.Orders.{IsJudgedTo, IsLower, IsSumAt, IsSizeOf, Precedes}
 use Rattle.path_levels.proofs.OutlineParts.{stay_level}
 use Rattle.path_levels.proofs.LevelsOfLines.{level_unique, stay_of_level}
-use Rattle.path_checker.proofs.Places.{any_line}
-use Rattle.path_checker.proofs.Walking.WayBegins.{any_stay}
+use Rattle.path_lines.proofs.Places.{any_line}
+use Rattle.path_lines.proofs.Places.{any_stay}
 
 abbrev pub any_row : Row
 any_row = record { id = 0; rank = 0; weight = 0; rel = any_line.rel; scale = 1; constant = record { num = pos 0; den = 1 }; terms = [] }
@@ -52,12 +52,12 @@ no_over_sum p mark first none (k, s, within, is, (mark_is, low, high)) = none s.
 pub no_over_place : (p : Problem) (sum : Quantity) (mark : Mark) (first : ℕ) → sum ≡ Terms mark first → ((id : ℕ) → mark ≡ over_mark id → ⊥) → IsSumOf p sum → ⊥
 no_over_place p sum mark first is none h = no_over_sum p mark first none (subst (IsSumOf p) is h)
 
-moved_order : (a b : Place) (i j : ℕ) → i ≡ a.first → j ≡ b.first → IsLower a b → (a.at < b.at) ⊎ ((a.at ≡ b.at) × (i < j))
+moved_order : (a b : SumAt) (i j : ℕ) → i ≡ a.first → j ≡ b.first → IsLower a b → (a.at < b.at) ⊎ ((a.at ≡ b.at) × (i < j))
 moved_order a b i j ia jb (inl less) = inl less
 moved_order a b i j ia jb (inr (same, less)) = inr (same, omega (arith, ia, jb, less))
 
 -- lower, higher, or the same
-lower_cases : (a b : Place) → IsLower a b ⊎ (IsLower b a ⊎ ((a.at ≡ b.at) × (a.first ≡ b.first)))
+lower_cases : (a b : SumAt) → IsLower a b ⊎ (IsLower b a ⊎ ((a.at ≡ b.at) × (a.first ≡ b.first)))
 lower_cases a b =
     elim (cases_lt a.at b.at) [
       | inl less ↦ inl (inl less)
@@ -75,7 +75,7 @@ lower_cases a b =
       ]
     ]
 
-order_back : {P : Type 0} (a b : Place) (i j : ℕ) → i ≡ a.first → j ≡ b.first → a.is_rows ≡ b.is_rows → (Precedes a b → ⊥) → ((b.at < a.at) ⊎ ((b.at ≡ a.at) × (j < i)) → P) → ((a.at ≡ b.at) → (i ≡ j) → P) → P
+order_back : {P : Type 0} (a b : SumAt) (i j : ℕ) → i ≡ a.first → j ≡ b.first → a.is_rows ≡ b.is_rows → (Precedes a b → ⊥) → ((b.at < a.at) ⊎ ((b.at ≡ a.at) × (j < i)) → P) → ((a.at ≡ b.at) → (i ≡ j) → P) → P
 order_back a b i j ia jb kind none lower same =
     elim (lower_cases a b) [
       | inl before ↦ absurd (none (inr (kind, before)))
@@ -83,7 +83,7 @@ order_back a b i j ia jb kind none lower same =
       | inr (inr e) ↦ same e.0 (ia ∙ e.1 ∙ sym jb)
     ]
 
-pub placed_after : (p : Problem) (q r : Quantity) (a b : Place) → IsPlaceOf p q a → IsPlaceOf p r b → (Precedes a b → ⊥) → q ≢ r → ComesBefore p r q
+pub placed_after : (p : Problem) (q r : Quantity) (a b : SumAt) → IsSumAt p q a → IsSumAt p r b → (Precedes a b → ⊥) → q ≢ r → ComesBefore p r q
 placed_after p (Plain w) r a b h g none ne = absurd h
 placed_after p (Shifts w i) r a b h g none ne = absurd h
 placed_after p (Terms m i) (Plain w) a b h g none ne = absurd g

@@ -6,9 +6,9 @@ use Rattle.problem_core.specs.declared.parts.Mark.{Mark}
 use Rattle.problem_core.specs.Layout.{Problem}
 use Rattle.problem_core.specs.Corners.{IsExchange, exchanged}
 use Rattle.problem_core.specs.Levels.{HasNoLevelWriting, IsLevelAt}
-use Rattle.path_checker.specs.declared.spots.Step.{Step}
-use Rattle.path_checker.specs.declared.table.Inside.{Inside}
-use Rattle.path_checker.specs.Tables.{swap_of}
+use Rattle.path_lines.specs.declared.spots.Step.{Step}
+use Rattle.path_lines.specs.declared.table.Inside.{Inside}
+use Rattle.path_lines.specs.Tables.{swap_of}
 use Rattle.path_levels.specs.declared.outline.Outline.{Outline}
 use Rattle.path_levels.specs.declared.outline.LevelFacts.{LevelFacts}
 use Rattle.path_levels.specs.declared.sums.LevelSum.{LevelSum}

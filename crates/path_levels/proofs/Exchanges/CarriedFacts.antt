@@ -10,9 +10,9 @@ use Rattle.std.proofs.Math.Nat.{mul-le-mul, pos_of_dvd_of_pos}
 use lib.IntN.{*ℤ_comm}
 use Rattle.frac_core.proofs.Integers.{mul_assoc_ℤ}
 use Rattle.frac_core.specs.Fraction.{IsFitting}
-use Rattle.path_checker.specs.declared.exchange.Pivot.{Pivot}
-use Rattle.path_checker.specs.declared.numbers.Wide.{Wide}
-use Rattle.path_checker.specs.Numbers.{IsCombined, number_at}
+use Rattle.path_lines.specs.declared.exchange.Pivot.{Pivot}
+use Rattle.path_lines.specs.declared.numbers.Wide.{Wide}
+use Rattle.path_lines.specs.Numbers.{IsCombined, number_at}
 use Rattle.path_levels.specs.declared.carried.Factors.{Factors}
 use Rattle.path_levels.specs.declared.sums.LevelSum.{LevelSum}
 use Rattle.path_levels.specs.Exchanges.Carried.{AreSharing, IsCarriedBy, IsCommonOf}

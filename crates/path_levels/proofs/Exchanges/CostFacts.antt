@@ -4,8 +4,8 @@ use Rattle.std.proofs.lemmas.Int.{ints, unsigned_abs-mul}
 use Rattle.frac_core.proofs.Integers.{mul_assoc_ℤ}
 use Rattle.frac_core.specs.Fraction.{Fraction, IsRatio, IsUnfitRatio, sum_den, sum_num}
 use Rattle.corner_lines.specs.Levels.LevelCosts.{IsCostStep, IsUnfitStep}
-use Rattle.path_checker.specs.declared.exchange.Pivot.{Pivot}
-use Rattle.path_checker.specs.Exchanges.Pivots.{IsEnteredBy}
+use Rattle.path_lines.specs.declared.exchange.Pivot.{Pivot}
+use Rattle.path_lines.specs.Exchanges.Pivots.{IsEnteredBy}
 use Rattle.path_levels.specs.declared.sums.LevelSum.{LevelSum}
 use Rattle.path_levels.specs.Exchanges.FitsAfter.{moved_den, moved_num}
 use Rattle.frac_core.proofs.Numbers.{one-times as one_times, pos-size as up}

@@ -3,7 +3,7 @@ use Rattle.std.proofs.Common.{◌≡◌, ◌≢◌, ◌∙◌, ◌↔◌, ℕ, �
 use Rattle.std.proofs.lemmas.Bool.{cases_eq}
 use Rattle.std.proofs.lemmas.Int.{unsigned_abs-mul}
 use Rattle.std.proofs.lemmas.List.{get_or_default}
-use Rattle.path_checker.proofs.Iffs.{never_true}
+use Rattle.path_lines.proofs.Iffs.{never_true}
 use Rattle.frac_core.specs.Fraction.{IsFitting}
 use Rattle.problem_core.specs.declared.parts.Mark.{Mark}
 use Rattle.problem_core.specs.declared.parts.RowName.{RowName}
@@ -18,14 +18,14 @@ use Rattle.corner_lines.specs.LineEquations.{IsOutsideLine}
 use Rattle.corner_lines.specs.Levels.LevelRows.{inside_number, reduced_number}
 use Rattle.corner_lines.specs.Levels.LevelFits.{IsFittingRow}
 use Rattle.corner_lines.proofs.LevelRows.LevelExchanges.{by-sides}
-use Rattle.path_checker.specs.declared.exchange.Pivot.{Pivot}
-use Rattle.path_checker.specs.declared.table.Inside.{Inside}
-use Rattle.path_checker.specs.Numbers.{number_at as in_list}
-use Rattle.path_checker.specs.Exchanges.Pivots.{next_marks}
-use Rattle.path_checker.specs.Tables.{AreLines, IsLineAt, IsThere, line_count, name_at, numbers_of, swap_of}
-use Rattle.path_checker.proofs.Exchanges.EnteringLine.{at_place}
-use Rattle.path_checker.proofs.Exchanges.Exchanging.{one_side}
-use Rattle.path_checker.proofs.Places.{any_line, mark_is_there, name_there, names_differ}
+use Rattle.path_lines.specs.declared.exchange.Pivot.{Pivot}
+use Rattle.path_lines.specs.declared.table.Inside.{Inside}
+use Rattle.path_lines.specs.Numbers.{number_at as in_list}
+use Rattle.path_lines.specs.Exchanges.Pivots.{next_marks}
+use Rattle.path_lines.specs.Tables.{AreLines, IsLineAt, IsThere, line_count, name_at, numbers_of, swap_of}
+use Rattle.path_lines.proofs.Exchanges.EnteringLine.{at_place}
+use Rattle.path_lines.proofs.Exchanges.Exchanging.{one_side}
+use Rattle.path_lines.proofs.Places.{any_line, mark_is_there, name_there, names_differ}
 use Rattle.path_levels.specs.declared.outline.Outline.{Outline}
 use Rattle.path_levels.specs.declared.outline.LineFacts.{LineFacts}
 use Rattle.path_levels.specs.declared.sums.LevelSum.{LevelSum}

@@ -11,7 +11,7 @@ use Rattle.frac_core.specs.declared.frac.TheConstants.{PART_BOUND}
 use Rattle.frac_core.proofs.Gauss.{gauss, above_left as quotient_above}
 use Rattle.frac_core.proofs.Integers.{cancel_mul, diff-add, diff-mul, diff-neg, diff-pos, diff_eq, mul_assoc_ℤ, mul_left_comm_ℤ, mul-add_left, neg-pos, on_2, positive_from}
 use Rattle.path_levels.specs.Exchanges.Moved.{IsLowestPart, joint_den, joint_num}
-use Rattle.path_checker.proofs.Walking.FirstLines.{abs_sum}
+use Rattle.path_lines.proofs.Walking.FirstLines.{abs_sum}
 use Rattle.frac_core.proofs.Quotients.{size_opposite}
 use Rattle.frac_core.proofs.Fitting.{ratio-up as ratio_up, ratio-down as ratio_down}
 use Rattle.frac_core.proofs.Numbers.{pos-size as up}

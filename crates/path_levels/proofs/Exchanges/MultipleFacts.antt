@@ -18,14 +18,14 @@ use Rattle.corner_laws.proofs.LinePlaces.{lines_apart}
 use Rattle.corner_lines.specs.LineEquations.{IsOutsideLine}
 use Rattle.corner_lines.specs.Levels.LevelRows.{AreFactors, IsLevelMultiple, inside_number, sum_by}
 use Rattle.corner_lines.proofs.LevelRows.LevelExchanges.{by-sides, exchanged-multiple, inside-numbers}
-use Rattle.path_checker.specs.declared.exchange.Pivot.{Pivot}
-use Rattle.path_checker.specs.declared.numbers.Wide.{Wide}
-use Rattle.path_checker.specs.Numbers.{number_at as in_list}
-use Rattle.path_checker.specs.Exchanges.Pivots.{next_marks}
-use Rattle.path_checker.specs.Tables.{line_count, name_at, numbers_of, swap_of}
-use Rattle.path_checker.proofs.Exchanges.EnteringLine.{at_place}
-use Rattle.path_checker.proofs.Exchanges.Exchanging.{one_side}
-use Rattle.path_checker.proofs.Places.{any_line, name_there, names_differ, number_there}
+use Rattle.path_lines.specs.declared.exchange.Pivot.{Pivot}
+use Rattle.path_lines.specs.declared.numbers.Wide.{Wide}
+use Rattle.path_lines.specs.Numbers.{number_at as in_list}
+use Rattle.path_lines.specs.Exchanges.Pivots.{next_marks}
+use Rattle.path_lines.specs.Tables.{line_count, name_at, numbers_of, swap_of}
+use Rattle.path_lines.proofs.Exchanges.EnteringLine.{at_place}
+use Rattle.path_lines.proofs.Exchanges.Exchanging.{one_side}
+use Rattle.path_lines.proofs.Places.{any_line, name_there, names_differ, number_there}
 use Rattle.path_levels.specs.declared.carried.Factors.{Factors}
 use Rattle.path_levels.specs.declared.outline.Outline.{Outline}
 use Rattle.path_levels.specs.declared.outline.LevelFacts.{LevelFacts}

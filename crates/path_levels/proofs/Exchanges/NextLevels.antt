@@ -20,15 +20,15 @@ use Rattle.corner_lines.proofs.LevelRows.LevelDivided.{divided_row_is_row}
 use Rattle.corner_lines.proofs.Costs.LevelFits.{unfit_multiple_has_no_writing, unfit_row_has_no_writing}
 use Rattle.corner_lines.proofs.LevelRows.LevelSound.{whole_is_sound}
 use Rattle.corner_lines.proofs.Costs.LevelTakes.{entering_number_fits, turning_number_fits}
-use Rattle.path_checker.specs.declared.exchange.Pivot.{Pivot}
-use Rattle.path_checker.specs.declared.numbers.Wide.{Wide}
-use Rattle.path_checker.specs.declared.table.Inside.{Inside}
-use Rattle.path_checker.specs.Numbers.{AreFitting, AreLowest, AreUnfit}
-use Rattle.path_checker.specs.Exchanges.Pivots.{next_marks}
-use Rattle.path_checker.specs.Tables.{AreLines, IsThere, line_count, name_at, numbers_of, swap_of}
-use Rattle.path_checker.proofs.Exchanges.NextLines.{lowest_count}
-use Rattle.path_checker.proofs.Arithmetic.NumbersOf.{each_number, numbers-map}
-use Rattle.path_checker.proofs.Places.{name_there, names_differ, number_there}
+use Rattle.path_lines.specs.declared.exchange.Pivot.{Pivot}
+use Rattle.path_lines.specs.declared.numbers.Wide.{Wide}
+use Rattle.path_lines.specs.declared.table.Inside.{Inside}
+use Rattle.path_lines.specs.Numbers.{AreFitting, AreLowest, AreUnfit}
+use Rattle.path_lines.specs.Exchanges.Pivots.{next_marks}
+use Rattle.path_lines.specs.Tables.{AreLines, IsThere, line_count, name_at, numbers_of, swap_of}
+use Rattle.path_lines.proofs.Exchanges.NextLines.{lowest_count}
+use Rattle.path_lines.proofs.Arithmetic.NumbersOf.{each_number, numbers-map}
+use Rattle.path_lines.proofs.Places.{name_there, names_differ, number_there}
 use Rattle.path_levels.specs.declared.outline.Outline.{Outline}
 use Rattle.path_levels.specs.declared.outline.LineFacts.{LineFacts}
 use Rattle.path_levels.specs.declared.sums.LevelSum.{LevelSum}
@@ -37,14 +37,14 @@ use Rattle.path_levels.specs.Outlines.{IsFactsOf, IsOutline, number_at}
 use Rattle.path_levels.specs.Levels.{IsLevelSum, IsSizedLevel}
 use Rattle.path_levels.specs.Rows.{AreKept}
 use Rattle.path_levels.specs.Shares.{entering_of}
-use Rattle.path_checker.specs.declared.spots.Step.{Step}
+use Rattle.path_lines.specs.declared.spots.Step.{Step}
 use Rattle.path_levels.proofs.Counting.ShareFacts.{unit_fits}
 use Rattle.path_levels.specs.Exchanges.Pivots.{IsExchangePivot, IsMultipleAt, IsWideLevel}
 use Rattle.path_levels.proofs.Exchanges.CostFacts.{cost_step, entered, entered_is, unfit_step}
 use Rattle.path_levels.proofs.Exchanges.FitFacts.{fit_level, fitting_row, next_is_there}
 use Rattle.path_levels.proofs.Counting.LineShares.{facts_count, stood_line}
 use Rattle.path_levels.proofs.Exchanges.MultipleFacts.{any_level, before_other, before_turn, enter_out, some_number}
-use Rattle.path_checker.proofs.Arithmetic.Unfits.{same_list}
+use Rattle.path_lines.proofs.Arithmetic.Unfits.{same_list}
 use Rattle.frac_core.proofs.Numbers.{pos-size as up, product-up as positive_product}
 use Rattle.frac_core.proofs.Lists.{each-from_map as unmapped}
 use Rattle.path_levels.proofs.Parts.PartLines.{facts_at}

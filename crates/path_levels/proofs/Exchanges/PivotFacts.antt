@@ -21,17 +21,17 @@ use Rattle.corner_lines.specs.Levels.LevelRows.{IsPivot, line_numbers}
 use Rattle.corner_lines.proofs.Lines.LineExchanges.{line_turns}
 use Rattle.corner_lines.proofs.Lines.LinePivots.{equation_is_pivot, pivot_is_solved}
 use Rattle.corner_lines.proofs.Lines.LineWritings.{line_value}
-use Rattle.path_checker.specs.declared.exchange.Pivot.{Pivot}
-use Rattle.path_checker.specs.declared.spots.Step.{Step}
-use Rattle.path_checker.specs.declared.table.Inside.{Inside}
-use Rattle.path_checker.specs.declared.table.Sum.{Sum}
-use Rattle.path_checker.specs.Numbers.{IsReplaced, flip_sign, number_at}
-use Rattle.path_checker.specs.Exchanges.Pivots.{IsPivotAt, IsSolvedFrom, next_marks}
-use Rattle.path_checker.specs.Tables.{AreLines, IsLineAt, IsSized, IsSizedLine, IsSumOf, IsThere, line_count, name_at, numbers_of, swap_of}
-use Rattle.path_checker.proofs.Exchanges.EnteringLine.{at_place}
-use Rattle.path_checker.proofs.Exchanges.Exchanging.{one_side, other_iff}
-use Rattle.path_checker.proofs.Places.{name_there, names_differ, number_there}
-use Rattle.path_checker.proofs.Exchanges.SolvedPivots.{solved_is_pivot}
+use Rattle.path_lines.specs.declared.exchange.Pivot.{Pivot}
+use Rattle.path_lines.specs.declared.spots.Step.{Step}
+use Rattle.path_lines.specs.declared.table.Inside.{Inside}
+use Rattle.path_lines.specs.declared.table.Sum.{Sum}
+use Rattle.path_lines.specs.Numbers.{IsReplaced, flip_sign, number_at}
+use Rattle.path_lines.specs.Exchanges.Pivots.{IsPivotAt, IsSolvedFrom, next_marks}
+use Rattle.path_lines.specs.Tables.{AreLines, IsLineAt, IsSized, IsSizedLine, IsSumOf, IsThere, line_count, name_at, numbers_of, swap_of}
+use Rattle.path_lines.proofs.Exchanges.EnteringLine.{at_place}
+use Rattle.path_lines.proofs.Exchanges.Exchanging.{one_side, other_iff}
+use Rattle.path_lines.proofs.Places.{name_there, names_differ, number_there}
+use Rattle.path_lines.proofs.Exchanges.SolvedPivots.{solved_is_pivot}
 use Rattle.path_levels.specs.Exchanges.Pivots.{IsExchangePivot, IsSizedPivot, IsTurnedFrom}
 use Rattle.problem_core.proofs.Corners.Conflicts.{sum-each}
 use Rattle.frac_core.proofs.Bools.{not-both as true_false}

@@ -22,14 +22,14 @@ use Rattle.corner_lines.proofs.LevelRows.LevelDivided.{divided_row_is_row}
 use Rattle.corner_lines.proofs.LevelRows.LevelExchanges.{by-sides, exchanged-multiple}
 use Rattle.corner_lines.proofs.LevelRows.LevelSound.{whole_is_sound}
 use Rattle.corner_lines.proofs.Lines.LineWritings.{no-side}
-use Rattle.path_checker.specs.declared.exchange.Pivot.{Pivot}
-use Rattle.path_checker.specs.declared.spots.Step.{Step}
-use Rattle.path_checker.specs.declared.table.Inside.{Inside}
-use Rattle.path_checker.specs.Numbers.{number_at as in_list}
-use Rattle.path_checker.specs.Exchanges.Pivots.{next_marks}
-use Rattle.path_checker.specs.Tables.{IsThere, line_count, name_at, numbers_of, swap_of}
-use Rattle.path_checker.proofs.Exchanges.EnteringLine.{at_place}
-use Rattle.path_checker.proofs.Places.{any_line, name_there, names_differ, number_there}
+use Rattle.path_lines.specs.declared.exchange.Pivot.{Pivot}
+use Rattle.path_lines.specs.declared.spots.Step.{Step}
+use Rattle.path_lines.specs.declared.table.Inside.{Inside}
+use Rattle.path_lines.specs.Numbers.{number_at as in_list}
+use Rattle.path_lines.specs.Exchanges.Pivots.{next_marks}
+use Rattle.path_lines.specs.Tables.{IsThere, line_count, name_at, numbers_of, swap_of}
+use Rattle.path_lines.proofs.Exchanges.EnteringLine.{at_place}
+use Rattle.path_lines.proofs.Places.{any_line, name_there, names_differ, number_there}
 use Rattle.path_levels.specs.declared.outline.Outline.{Outline}
 use Rattle.path_levels.specs.declared.outline.LineFacts.{LineFacts}
 use Rattle.path_levels.specs.declared.sums.LevelSum.{LevelSum}

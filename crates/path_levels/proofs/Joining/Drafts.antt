@@ -8,9 +8,9 @@ use Rattle.problem_core.specs.Levels.{HasNoLevelWriting}
 use Rattle.corner_laws.specs.Units.{IsLevelUnit}
 use Rattle.corner_lines.specs.Levels.LevelFits.{IsLevelThere}
 use Rattle.corner_lines.specs.Levels.LevelRows.{HasLevelRow}
-use Rattle.path_checker.specs.declared.table.Inside.{Inside}
-use Rattle.path_checker.specs.Numbers.{AreLowest}
-use Rattle.path_checker.specs.Tables.{numbers_of}
+use Rattle.path_lines.specs.declared.table.Inside.{Inside}
+use Rattle.path_lines.specs.Numbers.{AreLowest}
+use Rattle.path_lines.specs.Tables.{numbers_of}
 use Rattle.path_levels.specs.declared.outline.LineFacts.{LineFacts}
 use Rattle.path_levels.specs.declared.joins.Draft.{Draft}
 use Rattle.path_levels.specs.declared.sums.LevelSum.{LevelSum}

@@ -2,11 +2,11 @@
 use Rattle.std.proofs.Common.{◌≡◌, ◌∙◌, ℕ, ◌+◌, ◌<◌, List, Bool, true, false, length, get_or, arith, inl, inr, ap, subst, sym, ℤ, pos, unsigned_abs}
 use Rattle.std.specs.Prelude.{◌↔◌, IsTrue}
 use Rattle.std.proofs.lemmas.List.{get_or_default}
-use Rattle.path_checker.specs.Numbers.{number_at}
+use Rattle.path_lines.specs.Numbers.{number_at}
 use Rattle.path_levels.specs.declared.outline.LineFacts.{LineFacts}
 use Rattle.std.specs.declared.option.Option.{Option}
 use Rattle.std.proofs.lemmas.Bool.{cases_lt}
-use Rattle.path_checker.specs.declared.table.Inside.{Inside}
+use Rattle.path_lines.specs.declared.table.Inside.{Inside}
 use Rattle.path_levels.specs.declared.outline.Outline.{Outline}
 use Rattle.path_levels.specs.declared.joins.Draft.{Draft}
 use Rattle.path_levels.specs.Joins.{AreFittingCosts, AreFittingTo, IsFittingAt}

@@ -19,10 +19,10 @@ use Rattle.corner_lines.specs.LineEquations.{IsOutsideLine}
 use Rattle.corner_lines.specs.Levels.LevelFits.{IsFittingRow}
 use Rattle.corner_lines.specs.Levels.LevelRows.{inside_number, reduced_number}
 use Rattle.corner_lines.proofs.LevelRows.LevelJoins.{free-over, free-under}
-use Rattle.path_checker.specs.declared.table.Inside.{Inside}
-use Rattle.path_checker.specs.Numbers.{number_at}
-use Rattle.path_checker.specs.Tables.{numbers_of}
-use Rattle.path_checker.proofs.Exchanges.EnteringLine.{at_place}
+use Rattle.path_lines.specs.declared.table.Inside.{Inside}
+use Rattle.path_lines.specs.Numbers.{number_at}
+use Rattle.path_lines.specs.Tables.{numbers_of}
+use Rattle.path_lines.proofs.Exchanges.EnteringLine.{at_place}
 use Rattle.path_levels.specs.declared.outline.Outline.{Outline}
 use Rattle.path_levels.specs.declared.outline.LineFacts.{LineFacts}
 use Rattle.path_levels.specs.declared.joins.Draft.{Draft}

@@ -21,8 +21,8 @@ use Rattle.corner_lines.specs.Levels.LevelJoins.{AreLinesBefore, IsLineBefore, w
 use Rattle.corner_lines.specs.Levels.LevelRows.{line_numbers}
 use Rattle.corner_lines.proofs.LevelRows.LevelJoins.{sum-before}
 use Rattle.corner_lines.proofs.Costs.LevelJoinCosts.{joined_cost_is_cost, unfit_joined_cost, product-before as scales-before}
-use Rattle.path_checker.specs.declared.table.Inside.{Inside}
-use Rattle.path_checker.specs.Tables.{numbers_of}
+use Rattle.path_lines.specs.declared.table.Inside.{Inside}
+use Rattle.path_lines.specs.Tables.{numbers_of}
 use Rattle.path_levels.specs.declared.outline.LineFacts.{LineFacts}
 use Rattle.path_levels.specs.declared.sums.LevelSum.{LevelSum}
 use Rattle.path_levels.specs.Joins.{IsJoinedCost, IsUnfitJoinedCost, cost_number, counted_number}

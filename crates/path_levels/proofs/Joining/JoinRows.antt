@@ -27,10 +27,10 @@ use Rattle.corner_lines.specs.Levels.LevelRows.{AreFactors, HasLevelRow, IsLevel
 use Rattle.corner_lines.proofs.LevelRows.LevelDivided.{divided_row_is_row}
 use Rattle.corner_lines.proofs.Costs.LevelFits.{unfit_multiple_has_no_writing}
 use Rattle.corner_lines.proofs.LevelRows.LevelJoins.{each-before, grown_row_is_row, joined_row_is_multiple, joined_unit_is_unit, sum-before}
-use Rattle.path_checker.specs.declared.table.Inside.{Inside}
-use Rattle.path_checker.specs.Numbers.{AreLowest, AreUnfit, IsCombined}
-use Rattle.path_checker.specs.Tables.{numbers_of}
-use Rattle.path_checker.proofs.Arithmetic.NumbersOf.{numbers-combined}
+use Rattle.path_lines.specs.declared.table.Inside.{Inside}
+use Rattle.path_lines.specs.Numbers.{AreLowest, AreUnfit, IsCombined}
+use Rattle.path_lines.specs.Tables.{numbers_of}
+use Rattle.path_lines.proofs.Arithmetic.NumbersOf.{numbers-combined}
 use Rattle.path_levels.specs.declared.outline.LineFacts.{LineFacts}
 use Rattle.path_levels.specs.declared.sums.LevelSum.{LevelSum}
 use Rattle.path_levels.specs.Joins.{IsJoinedList, IsRise, IsWeightOf, counted_number}

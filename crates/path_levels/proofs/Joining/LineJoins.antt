@@ -13,8 +13,8 @@ use Rattle.corner_lines.specs.LineEquations.{IsOutsideLine}
 use Rattle.corner_lines.specs.Levels.LevelCosts.{HasDeviation, IsSound}
 use Rattle.corner_lines.specs.Levels.LevelJoins.{AreLinesBefore}
 use Rattle.corner_lines.specs.Levels.LevelRows.{IsPivot, line_numbers}
-use Rattle.path_checker.specs.declared.table.Inside.{Inside}
-use Rattle.path_checker.specs.Tables.{IsSized, line_count, numbers_of}
+use Rattle.path_lines.specs.declared.table.Inside.{Inside}
+use Rattle.path_lines.specs.Tables.{IsSized, line_count, numbers_of}
 use Rattle.path_levels.specs.declared.outline.LineFacts.{LineFacts}
 use Rattle.path_levels.specs.declared.sums.LevelSum.{LevelSum}
 use Rattle.path_levels.specs.Levels.{IsLevelSum}

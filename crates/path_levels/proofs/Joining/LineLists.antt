@@ -20,10 +20,10 @@ use Rattle.corner_laws.proofs.ZeroColumns.{not-in}
 use Rattle.corner_lines.specs.LineEquations.{IsOutsideLine}
 use Rattle.corner_lines.specs.Levels.LevelJoins.{AreLinesBefore, IsLineBefore}
 use Rattle.corner_lines.specs.Levels.LevelRows.{IsDividedRow, IsUnfitRow}
-use Rattle.path_checker.specs.Numbers.{AreLowest, AreUnfit}
-use Rattle.path_checker.specs.Tables.{numbers_of}
-use Rattle.path_checker.proofs.Arithmetic.NumbersOf.{each_number, numbers-map}
-use Rattle.path_checker.proofs.Arithmetic.Unfits.{same_list}
+use Rattle.path_lines.specs.Numbers.{AreLowest, AreUnfit}
+use Rattle.path_lines.specs.Tables.{numbers_of}
+use Rattle.path_lines.proofs.Arithmetic.NumbersOf.{each_number, numbers-map}
+use Rattle.path_lines.proofs.Arithmetic.Unfits.{same_list}
 use Rattle.frac_core.proofs.Lists.{each-from_map as unmapped}
 
 -- inside lines have no number

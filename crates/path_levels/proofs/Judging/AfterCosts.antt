@@ -10,13 +10,13 @@ use Rattle.corner_laws.proofs.Rays.{rays_after}
 use Rattle.corner_laws.specs.Units.{IsLevelUnit}
 use Rattle.corner_lines.specs.LineEquations.{IsOutsideLine}
 use Rattle.corner_lines.proofs.LevelRows.LevelExchanges.{by-sides}
-use Rattle.path_checker.specs.declared.numbers.Wide.{Wide}
-use Rattle.path_checker.specs.declared.spots.Step.{Step}
-use Rattle.path_checker.specs.declared.table.Inside.{Inside}
-use Rattle.path_checker.specs.Tables.{IsLineAt, IsThere, line_count, mark_of, name_at, swap_of}
-use Rattle.path_checker.proofs.Exchanges.Exchanging.{one_side}
-use Rattle.path_checker.proofs.Iffs.{never, through}
-use Rattle.path_checker.proofs.Places.{mark_is_there, names_differ}
+use Rattle.path_lines.specs.declared.numbers.Wide.{Wide}
+use Rattle.path_lines.specs.declared.spots.Step.{Step}
+use Rattle.path_lines.specs.declared.table.Inside.{Inside}
+use Rattle.path_lines.specs.Tables.{IsLineAt, IsThere, line_count, mark_of, name_at, swap_of}
+use Rattle.path_lines.proofs.Exchanges.Exchanging.{one_side}
+use Rattle.path_lines.proofs.Iffs.{never, through}
+use Rattle.path_lines.proofs.Places.{mark_is_there, names_differ}
 use Rattle.path_levels.specs.declared.columns_after.WideLevel.{WideLevel}
 use Rattle.path_levels.specs.declared.outline.Outline.{Outline}
 use Rattle.path_levels.specs.declared.outline.LineFacts.{LineFacts}

@@ -4,7 +4,7 @@ use Rattle.std.proofs.lemmas.Bool.{cases_eq, cases_lt}
 use lib.Signed.{lt_z}
 use borrow.Author.Differences.{ints}
 use Rattle.problem_core.specs.Corners.{IsLexNegative}
-use Rattle.path_checker.proofs.Iffs.{never_true}
+use Rattle.path_lines.proofs.Iffs.{never_true}
 use Rattle.path_levels.specs.Costs.{IsNegativeFirst}
 use Rattle.frac_core.proofs.Numbers.{low-or-up as sign-of}
 

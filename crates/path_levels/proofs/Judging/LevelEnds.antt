@@ -20,9 +20,9 @@ use Rattle.corner_laws.proofs.LevelCosts.LevelExists.{cost_fixed}
 use Rattle.corner_laws.proofs.ZeroColumns.{scales-above}
 use Rattle.corner_lines.specs.LineEquations.{IsOutsideLine}
 use Rattle.corner_lines.specs.Fronts.{costs_of}
-use Rattle.path_checker.specs.declared.table.Inside.{Inside}
-use Rattle.path_checker.specs.Tables.{IsLineAt, IsThere, line_count, name_at}
-use Rattle.path_checker.proofs.Iffs.{always, never, right_then, wrong_then}
+use Rattle.path_lines.specs.declared.table.Inside.{Inside}
+use Rattle.path_lines.specs.Tables.{IsLineAt, IsThere, line_count, name_at}
+use Rattle.path_lines.proofs.Iffs.{always, never, right_then, wrong_then}
 use Rattle.path_levels.specs.declared.outline.Outline.{Outline}
 use Rattle.path_levels.specs.declared.outline.LineFacts.{LineFacts}
 use Rattle.path_levels.specs.declared.sums.LevelSum.{LevelSum}

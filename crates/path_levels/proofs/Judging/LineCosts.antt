@@ -14,11 +14,11 @@ use Rattle.corner_laws.proofs.LevelCosts.LevelSizes.{no-over, no-under}
 use Rattle.corner_lines.specs.LineEquations.{IsOutsideLine}
 use Rattle.corner_lines.specs.Levels.LevelRows.{reduced_number}
 use Rattle.corner_lines.specs.Fronts.{costs_of}
-use Rattle.path_checker.specs.Numbers.{number_at as number_of}
-use Rattle.path_checker.specs.Tables.{IsThere, line_count, name_at, numbers_of}
-use Rattle.path_checker.proofs.Iffs.{always, never, right_then, through, wrong_then}
-use Rattle.path_checker.proofs.Places.{any_line, name_there, number_there}
-use Rattle.path_checker.specs.declared.table.Inside.{Inside}
+use Rattle.path_lines.specs.Numbers.{number_at as number_of}
+use Rattle.path_lines.specs.Tables.{IsThere, line_count, name_at, numbers_of}
+use Rattle.path_lines.proofs.Iffs.{always, never, right_then, through, wrong_then}
+use Rattle.path_lines.proofs.Places.{any_line, name_there, number_there}
+use Rattle.path_lines.specs.declared.table.Inside.{Inside}
 use Rattle.path_levels.specs.declared.outline.Outline.{Outline}
 use Rattle.path_levels.specs.declared.outline.LevelFacts.{LevelFacts}
 use Rattle.path_levels.specs.declared.outline.LineFacts.{LineFacts}

@@ -22,8 +22,8 @@ use Rattle.corner_lines.specs.Levels.LevelRows.{HasLevelRow, IsLevelMultiple, in
 use Rattle.corner_lines.specs.Fronts.{Rows, costs_of}
 use Rattle.corner_lines.proofs.LevelRows.LevelExchanges.{by-sides}
 use Rattle.corner_lines.proofs.Costs.LevelCosts.{column-is, reduced-none}
-use Rattle.path_checker.specs.Tables.{line_count, name_at}
-use Rattle.path_checker.proofs.Places.{any_line, name_there, names_differ}
+use Rattle.path_lines.specs.Tables.{line_count, name_at}
+use Rattle.path_lines.proofs.Places.{any_line, name_there, names_differ}
 use Rattle.corner_lines.proofs.ColumnsBelow.{low_from}
 use Rattle.frac_core.proofs.Numbers.{as-one-times as one-times, up-carried as up_from, low-or-up as sign-of, zero-carried as none_from, up-from as sign-from}
 use Rattle.corner_laws.proofs.Swaps.ColumnsStay.{column-alike as columns-multiple}

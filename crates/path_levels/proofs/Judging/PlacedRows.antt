@@ -9,8 +9,8 @@ use Rattle.corner_lines.specs.Levels.LevelRows.{reduced_number}
 use Rattle.corner_lines.specs.Fronts.{Rows, costs_of}
 use Rattle.corner_lines.proofs.FrontSigns.{reduced_elsewhere}
 use Rattle.corner_lines.proofs.LevelRows.LevelJoins.{empty_level_has_row}
-use Rattle.path_checker.specs.Tables.{line_count, numbers_of}
-use Rattle.path_checker.proofs.Places.{any_line}
+use Rattle.path_lines.specs.Tables.{line_count, numbers_of}
+use Rattle.path_lines.proofs.Places.{any_line}
 use Rattle.path_levels.proofs.Judging.FirstSigns.{ArePlacedCosts, Found, IsRising, find, rising_same}
 use Rattle.path_levels.proofs.Judging.OwnColumns.{AreMultiples, HasMultiple, line_at, row_is_multiple}
 use Rattle.corner_lines.proofs.LevelRows.StayRows.{turned-zero as turned-none}

@@ -18,7 +18,7 @@ use Rattle.corner_lines.specs.Levels.LevelRows.{HasLevelRow}
 use Rattle.corner_lines.proofs.Costs.LevelFits.{fitting_row_has_writing, small_row_fits}
 use Rattle.corner_lines.proofs.LevelRows.LevelJoins.{empty_level_has_row}
 use Rattle.corner_lines.proofs.LevelRows.LevelSound.{first_rows_are_sound}
-use Rattle.path_checker.specs.Tables.{IsThere, line_count, numbers_of}
+use Rattle.path_lines.specs.Tables.{IsThere, line_count, numbers_of}
 use Rattle.path_levels.specs.declared.sums.LevelSum.{LevelSum}
 use Rattle.path_levels.specs.Levels.{IsLevelSum, IsSizedLevel}
 use Rattle.path_levels.specs.Parts.{IsEmptySum, part}
@@ -27,7 +27,7 @@ use Rattle.path_levels.proofs.Parts.PartLines.{part_lines}
 use Rattle.path_levels.proofs.Parts.Weighed.{weighed_later, weighed_length}
 use Rattle.problem_core.proofs.Corners.Conflicts.{sum-each}
 use Rattle.problem_core.proofs.Sides.{zero-lowest}
-use Rattle.path_checker.proofs.Walking.FirstLines.{numbers_zero as zeros-none}
+use Rattle.path_lines.proofs.Walking.FirstLines.{numbers_zero as zeros-none}
 use Rattle.problem_core.proofs.Lines.{free-cost}
 
 -- ---- it costs nothing

@@ -15,11 +15,11 @@ use Rattle.problem_core.specs.Unfit.{with_first_rows}
 use Rattle.corner_lines.specs.Levels.LevelJoins.{level_count}
 use Rattle.corner_lines.proofs.LevelRows.LevelRests.{all_rows_have_joined}
 use Rattle.corner_lines.proofs.LevelRows.StayRows.{level_one as one-number}
-use Rattle.path_checker.specs.Stops.{SumStop}
+use Rattle.path_lines.specs.Stops.{SumStop}
 use Rattle.frac_core.specs.Stops.{IsRefused}
 use Rattle.frac_core.specs.declared.memory.Stop.TheVariants.{Refused, OutOfMemory}
-use Rattle.path_checker.specs.declared.table.Inside.{Inside}
-use Rattle.path_checker.specs.Tables.{line_count}
+use Rattle.path_lines.specs.declared.table.Inside.{Inside}
+use Rattle.path_lines.specs.Tables.{line_count}
 use Rattle.path_levels.specs.declared.outline.Outline.{Outline}
 use Rattle.path_levels.specs.declared.tableau.CornerLines.{CornerLines}
 use Rattle.path_levels.specs.declared.outline.LevelFacts.{LevelFacts}
@@ -32,7 +32,7 @@ use Rattle.path_levels.specs.Rows.{AreKeptOf, IsRowsStop, IsRowsSum, RowsStop, l
 use Rattle.path_levels.proofs.Parts.EmptyParts.{empty_fits, empty_part, none_joined, sum_fits}
 use Rattle.path_levels.proofs.Parts.PartLines.{facts_at}
 use Rattle.path_levels.proofs.Parts.Weighed.{level_lines, level_lines_more}
-use Rattle.path_checker.proofs.Places.{any_line}
+use Rattle.path_lines.proofs.Places.{any_line}
 use Rattle.path_levels.proofs.OutlineParts.{number_is as number-there}
 
 -- ---- how many lines the level has

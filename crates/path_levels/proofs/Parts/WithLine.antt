@@ -20,10 +20,10 @@ use Rattle.corner_lines.specs.Levels.LevelJoins.{AreLinesBefore}
 use Rattle.corner_lines.specs.Levels.LevelFits.{IsFittingRow, IsLevelThere}
 use Rattle.corner_lines.proofs.Costs.LevelFits.{unfit_row_has_no_writing}
 use Rattle.corner_lines.proofs.LevelRows.LevelSound.{first-seen, first_rows_are_sound, same-stands, seen-same, seen-sym}
-use Rattle.path_checker.specs.declared.table.Inside.{Inside}
-use Rattle.path_checker.specs.Tables.{IsLineAt, IsSized, IsThere, line_count, name_at, numbers_of}
-use Rattle.path_checker.proofs.Exchanges.Exchanging.{one_side}
-use Rattle.path_checker.proofs.Places.{any_line, mark_is_there, name_there, names_differ}
+use Rattle.path_lines.specs.declared.table.Inside.{Inside}
+use Rattle.path_lines.specs.Tables.{IsLineAt, IsSized, IsThere, line_count, name_at, numbers_of}
+use Rattle.path_lines.proofs.Exchanges.Exchanging.{one_side}
+use Rattle.path_lines.proofs.Places.{any_line, mark_is_there, name_there, names_differ}
 use Rattle.path_levels.specs.declared.outline.Outline.{Outline}
 use Rattle.path_levels.specs.declared.outline.LevelFacts.{LevelFacts}
 use Rattle.path_levels.specs.declared.outline.LineFacts.{LineFacts}

@@ -9,13 +9,13 @@ use Rattle.problem_core.specs.Levels.{HasNoLevelWriting, IsLevelAt}
 use Rattle.problem_core.specs.Unfit.{with_first_rows}
 use Rattle.corner_laws.specs.Units.{IsStayLevel}
 use Rattle.corner_lines.proofs.LevelRows.StayRows.{stay_stands_alone}
-use Rattle.path_checker.specs.declared.table.Inside.{Inside}
-use Rattle.path_checker.specs.Tables.{IsThere, line_count}
+use Rattle.path_lines.specs.declared.table.Inside.{Inside}
+use Rattle.path_lines.specs.Tables.{IsThere, line_count}
 use Rattle.path_levels.specs.declared.outline.Outline.{Outline}
 use Rattle.path_levels.specs.declared.tableau.CornerLines.{CornerLines}
 use Rattle.path_levels.specs.declared.outline.LevelFacts.{LevelFacts}
 use Rattle.path_levels.specs.declared.sums.LevelSum.{LevelSum}
-use Rattle.path_checker.specs.Stops.{SumStop}
+use Rattle.path_lines.specs.Stops.{SumStop}
 use Rattle.frac_core.specs.declared.memory.Stop.TheVariants.{Refused, OutOfMemory}
 use Rattle.frac_core.specs.Stops.{IsRefused}
 use Rattle.path_levels.specs.Outlines.{IsOutline, number_at}

@@ -14,9 +14,9 @@ use Rattle.problem_core.specs.Unfit.{lightened, with_first_rows, without_weight}
 use Rattle.corner_laws.specs.Units.{IsStayLevel}
 use Rattle.corner_laws.proofs.Counting.{head_pairs}
 use Rattle.corner_lines.proofs.LevelRows.StayRows.{stay_stands_alone}
-use Rattle.path_checker.specs.declared.table.Inside.{Inside}
-use Rattle.path_checker.specs.Tables.{IsLineAt, line_count, name_at}
-use Rattle.path_checker.proofs.Places.{any_line, name_there}
+use Rattle.path_lines.specs.declared.table.Inside.{Inside}
+use Rattle.path_lines.specs.Tables.{IsLineAt, line_count, name_at}
+use Rattle.path_lines.proofs.Places.{any_line, name_there}
 use Rattle.path_levels.specs.declared.outline.Outline.{Outline}
 use Rattle.path_levels.specs.declared.outline.LevelFacts.{LevelFacts}
 use Rattle.path_levels.specs.declared.outline.LineFacts.{LineFacts}

@@ -29,8 +29,8 @@ use Rattle.corner_lines.proofs.Lines.LinePivots.{equation_is_pivot}
 use Rattle.corner_lines.proofs.Lines.LineWritings.{line_value}
 use Rattle.corner_lines.proofs.Costs.StayFits.{inside_stay_costs, inside_stay_is_unfit, no-cost, outside_stay_costs_one, turned-lowest, over-as, turned-fits as turned_fits}
 use Rattle.corner_lines.proofs.LevelRows.StayRows.{inside_stay_has_row, outside_stay_has_row, stay-number, stay_stands_alone, turned-size}
-use Rattle.path_checker.specs.declared.table.Inside.{Inside}
-use Rattle.path_checker.specs.Tables.{IsLineAt, IsThere, line_count, numbers_of}
+use Rattle.path_lines.specs.declared.table.Inside.{Inside}
+use Rattle.path_lines.specs.Tables.{IsLineAt, IsThere, line_count, numbers_of}
 use Rattle.path_levels.specs.declared.sums.LevelSum.{LevelSum}
 use Rattle.path_levels.specs.Levels.{IsLevelSum, IsSizedLevel}
 use Rattle.path_levels.specs.Parts.{IsEmptySum}
@@ -40,7 +40,7 @@ use Rattle.corner_lines.proofs.LevelRows.LevelExchanges.{at-side}
 use Rattle.path_levels.proofs.Joining.FittingRows.{named-fits}
 use Rattle.corner_lines.proofs.LevelRows.Units.{positive_is}
 use Rattle.corner_lines.proofs.LevelRows.OtherNumbers.{other-number}
-use Rattle.path_checker.proofs.Walking.FirstLines.{numbers_zero as named-zero}
+use Rattle.path_lines.proofs.Walking.FirstLines.{numbers_zero as named-zero}
 use Rattle.path_levels.proofs.Joining.LineLists.{small-zero as zero-fits}
 use Rattle.frac_core.proofs.Numbers.{divides-unless-zero as divides-zero}
 use Rattle.problem_core.proofs.Sides.{zero-lowest}

@@ -4,8 +4,8 @@ use Rattle.std.proofs.lemmas.List.{length-map}
 use borrow.Author.Differences.{ints}
 use Rattle.frac_core.specs.Fraction.{IsFitting}
 use Rattle.corner_lines.specs.Levels.StayLevels.{turned}
-use Rattle.path_checker.specs.declared.table.Inside.{Inside}
-use Rattle.path_checker.specs.Tables.{IsSized}
+use Rattle.path_lines.specs.declared.table.Inside.{Inside}
+use Rattle.path_lines.specs.Tables.{IsSized}
 use Rattle.path_levels.specs.declared.sums.LevelSum.{LevelSum}
 use Rattle.path_levels.specs.Levels.{IsSizedLevel}
 use Rattle.path_levels.specs.Parts.{IsStaySum}

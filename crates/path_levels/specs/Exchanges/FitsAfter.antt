@@ -3,11 +3,11 @@ use Rattle.std.specs.Prelude.{◌≡◌, ℕ, ◌<◌, cond, nat_eq, List, lengt
 use Rattle.std.specs.Prelude.{ℤ, pos, ◌*ℤ◌, ◌<ℤ◌, All, Option, None, Some}
 use Rattle.frac_core.specs.Fraction.{Fraction, IsFitting, IsKept, IsRatio, IsUnfitRatio, sum_den, sum_num}
 use Rattle.problem_core.specs.declared.parts.Side.{Side}
-use Rattle.path_checker.specs.declared.exchange.Pivot.{Pivot}
-use Rattle.path_checker.specs.Stops.{SumStop}
+use Rattle.path_lines.specs.declared.exchange.Pivot.{Pivot}
+use Rattle.path_lines.specs.Stops.{SumStop}
 use Rattle.frac_core.specs.Stops.{IsRefused}
-use Rattle.path_checker.specs.declared.table.Inside.{Inside}
-use Rattle.path_checker.specs.Numbers.{number_at}
+use Rattle.path_lines.specs.declared.table.Inside.{Inside}
+use Rattle.path_lines.specs.Numbers.{number_at}
 use Rattle.path_levels.specs.declared.outline.Outline.{Outline}
 use Rattle.path_levels.specs.declared.outline.LineFacts.{LineFacts}
 use Rattle.path_levels.specs.declared.sums.LevelSum.{LevelSum}

@@ -9,13 +9,13 @@ use Rattle.problem_core.specs.Corners.{IsExchange}
 use Rattle.corner_lines.specs.LineEquations.{IsOutsideLine}
 use Rattle.corner_lines.specs.Levels.LevelRows.{IsLevelMultiple, IsPivot}
 use Rattle.corner_lines.specs.Levels.LevelCosts.{HasDeviation}
-use Rattle.path_checker.specs.declared.exchange.Pivot.{Pivot}
-use Rattle.path_checker.specs.declared.numbers.Wide.{Wide}
-use Rattle.path_checker.specs.declared.spots.Step.{Step}
-use Rattle.path_checker.specs.declared.table.Sum.{Sum}
-use Rattle.path_checker.specs.Numbers.{AreFitting}
-use Rattle.path_checker.specs.Exchanges.Pivots.{IsEnteredBy, IsPivotAt, next_marks}
-use Rattle.path_checker.specs.Tables.{IsThere, line_count, name_at, numbers_of, swap_of}
+use Rattle.path_lines.specs.declared.exchange.Pivot.{Pivot}
+use Rattle.path_lines.specs.declared.numbers.Wide.{Wide}
+use Rattle.path_lines.specs.declared.spots.Step.{Step}
+use Rattle.path_lines.specs.declared.table.Sum.{Sum}
+use Rattle.path_lines.specs.Numbers.{AreFitting}
+use Rattle.path_lines.specs.Exchanges.Pivots.{IsEnteredBy, IsPivotAt, next_marks}
+use Rattle.path_lines.specs.Tables.{IsThere, line_count, name_at, numbers_of, swap_of}
 use Rattle.path_levels.specs.declared.outline.Outline.{Outline}
 use Rattle.path_levels.specs.declared.levels_after.LineExchange.{LineExchange}
 use Rattle.path_levels.specs.declared.sums.LevelSum.{LevelSum}

@@ -4,9 +4,9 @@ use Rattle.problem_core.specs.declared.parts.Side.{Side}
 use Rattle.problem_core.specs.declared.parts.Mark.{Mark}
 use Rattle.problem_core.specs.Layout.{Problem}
 use Rattle.corner_laws.specs.Units.{IsLevelUnit}
-use Rattle.path_checker.specs.declared.exchange.Pivot.{Pivot}
-use Rattle.path_checker.specs.Numbers.{number_at as number_of}
-use Rattle.path_checker.specs.Exchanges.Pivots.{next_marks}
+use Rattle.path_lines.specs.declared.exchange.Pivot.{Pivot}
+use Rattle.path_lines.specs.Numbers.{number_at as number_of}
+use Rattle.path_lines.specs.Exchanges.Pivots.{next_marks}
 use Rattle.path_levels.specs.declared.columns_after.WideLevel.{WideLevel}
 use Rattle.path_levels.specs.declared.outline.Outline.{Outline}
 use Rattle.path_levels.specs.declared.outline.LineFacts.{LineFacts}

@@ -1,6 +1,6 @@
 use Rattle.std.proofs.Common.{◌≡◌, ◌∙◌, List, length, ap, arith, Option}
-use Rattle.path_checker.specs.declared.table.Inside.{Inside}
-use Rattle.path_checker.specs.Tables.{line_count}
+use Rattle.path_lines.specs.declared.table.Inside.{Inside}
+use Rattle.path_lines.specs.Tables.{line_count}
 use Rattle.path_claims.proofs.StationTables.{outline_long}
 use Rattle.path_claims.proofs.along.is_called_for.Goals as goal
 

@@ -2,12 +2,13 @@ use Rattle.std.proofs.Common.{◌≡◌, ◌∙◌, ◌↔◌, List, length, get
 use Rattle.std.proofs.lemmas.Result.{err_from_is_err_and}
 use Rattle.problem_core.specs.Changes.Begins.{AreExchanges}
 use Rattle.problem_core.specs.Corners.{Swap}
-use Rattle.path_checker.specs.declared.table.Inside.{Inside}
-use Rattle.path_checker.specs.PathClauses.{AreCalledFor}
-use Rattle.path_checker.specs.Tables.{AreLines, line_count}
-use Rattle.path_checker.proofs.Iffs.{right_then, wrong_then}
-use Rattle.path_checker.proofs.Results.{err_says, ok_says}
-use Rattle.path_checker.proofs.Walking.Following.{as_many, swap_stuck}
+use Rattle.path_lines.specs.declared.table.Inside.{Inside}
+use Rattle.path_claims.specs.PathClauses.{AreCalledFor}
+use Rattle.path_lines.specs.Tables.{AreLines, line_count}
+use Rattle.path_lines.proofs.Iffs.{right_then, wrong_then}
+use Rattle.path_claims.proofs.Results.{err_says, ok_says}
+use Rattle.path_claims.proofs.Walking.Following.{swap_stuck}
+use Rattle.path_lines.proofs.Walking.PlacedSwaps.{as_many}
 use Rattle.path_claims.specs.Journeys.{AreSoundAhead, IsOnRoute}
 use Rattle.path_claims.specs.Stations.{IsSizedTable}
 use Rattle.path_claims.proofs.AlongSteps.{any_step, any_swap, no_room_on, no_swap, step_there, walk_begins, walked_more}

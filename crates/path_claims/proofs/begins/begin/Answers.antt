@@ -1,8 +1,8 @@
 use Rattle.std.proofs.Common.{◌∙◌, List, length, sym, ap, subst, Option}
-use Rattle.path_checker.specs.declared.table.Inside.{Inside}
-use Rattle.path_checker.specs.Route.{over_marks}
-use Rattle.path_claims.specs.FirstSums.{AreMade, AreMadeUntil}
-use Rattle.path_checker.specs.Tables.{AreSized}
+use Rattle.path_lines.specs.declared.table.Inside.{Inside}
+use Rattle.path_lines.specs.Route.{over_marks}
+use Rattle.path_fits.specs.FirstSums.{AreMade, AreMadeUntil}
+use Rattle.path_lines.specs.Tables.{AreSized}
 use Rattle.path_levels.specs.Levels.{AreSizedLevels}
 use Rattle.path_levels.specs.Rows.{AreKept, IsLevelsStop}
 use Rattle.path_claims.proofs.Beginning.BegunParts.{begun_until_rows, begun_until_terms, begun_whole, kept_there}

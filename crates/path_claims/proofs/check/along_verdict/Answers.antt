@@ -1,6 +1,6 @@
-use Rattle.path_checker.proofs.Exchanges.Leading.{ok_then}
-use Rattle.path_checker.proofs.FirstClauses.{once_then, twice_then}
-use Rattle.path_checker.proofs.Iffs.{right_then, wrong_then}
+use Rattle.path_lines.proofs.Exchanges.Leading.{ok_then}
+use Rattle.path_claims.proofs.FirstClauses.{once_then, twice_then}
+use Rattle.path_lines.proofs.Iffs.{right_then, wrong_then}
 use Rattle.path_claims.proofs.LastSteps.{comes_again, stopped_along}
 use Rattle.path_claims.proofs.check.along_verdict.Goals as goal
 

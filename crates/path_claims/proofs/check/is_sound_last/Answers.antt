@@ -1,9 +1,9 @@
 use Rattle.std.proofs.Common.{◌∙◌, ◌↔◌, ℕ, List, length, sym, subst, IsTrue, Bool, Option}
 use Rattle.problem_core.specs.Layout.{Row}
 use Rattle.problem_core.specs.Changes.Paths.{IsSound}
-use Rattle.path_checker.specs.Tables.{AreJudged}
-use Rattle.path_checker.proofs.Exchanges.Leading.{ok_then}
-use Rattle.path_claims.specs.Fits.{marks_after}
+use Rattle.path_lines.specs.Tables.{AreJudged}
+use Rattle.path_lines.proofs.Exchanges.Leading.{ok_then}
+use Rattle.path_fits.specs.Fits.{marks_after}
 use Rattle.path_claims.specs.Judging.{IsSoundFrom}
 use Rattle.path_claims.proofs.check.is_sound_last.Goals as goal
 

@@ -1,4 +1,4 @@
-use Rattle.path_checker.proofs.Exchanges.Leading.{ok_then}
+use Rattle.path_lines.proofs.Exchanges.Leading.{ok_then}
 use Rattle.path_claims.proofs.LastSteps.{stopped}
 use Rattle.path_claims.proofs.check.judged.Goals as goal
 

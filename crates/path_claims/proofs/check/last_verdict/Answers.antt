@@ -1,6 +1,6 @@
 use Rattle.std.proofs.Common.{sym, subst, IfOk, Option}
 use Rattle.problem_core.specs.declared.stops.Quantity.{Quantity}
-use Rattle.path_checker.specs.PathClauses.{IsPathVerdict}
+use Rattle.path_claims.specs.PathClauses.{IsPathVerdict}
 use Rattle.path_claims.proofs.LastSteps.{at_start_marks}
 use Rattle.path_claims.proofs.check.last_verdict.Goals as goal
 

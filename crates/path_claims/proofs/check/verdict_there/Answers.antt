@@ -1,5 +1,5 @@
-use Rattle.path_checker.proofs.Exchanges.Leading.{ok_then}
-use Rattle.path_checker.proofs.Results.{err_says, ok_says}
+use Rattle.path_lines.proofs.Exchanges.Leading.{ok_then}
+use Rattle.path_claims.proofs.Results.{err_says, ok_says}
 use Rattle.path_claims.proofs.LastSteps.{found_there, no_room_then, no_room_there}
 use Rattle.path_claims.proofs.check.verdict_there.Goals as goal
 

@@ -1,11 +1,11 @@
 use Rattle.std.proofs.Common.{◌≡◌, ◌∙◌, List, length, ap, sym, subst, Option, arith}
 use Rattle.std.proofs.lemmas.Result.{err_from_is_err_and}
-use Rattle.path_checker.specs.declared.table.Inside.{Inside}
-use Rattle.path_checker.specs.declared.spots.Spot.{Spot}
-use Rattle.path_checker.specs.Sides.{IsWithin}
-use Rattle.path_checker.specs.Tables.{line_count}
-use Rattle.path_checker.specs.Walking.Bringing.{IsBringing, NothingBrings}
-use Rattle.path_checker.proofs.Results.{err_says, ok_says}
+use Rattle.path_lines.specs.declared.table.Inside.{Inside}
+use Rattle.path_lines.specs.declared.spots.Spot.{Spot}
+use Rattle.path_lines.specs.Sides.{IsWithin}
+use Rattle.path_lines.specs.Tables.{line_count}
+use Rattle.path_claims.specs.Bringing.{IsBringing, NothingBrings}
+use Rattle.path_claims.proofs.Results.{err_says, ok_says}
 use Rattle.path_claims.specs.Stations.{IsSizedTable}
 use Rattle.path_claims.proofs.JourneySteps.{bring_stuck, brings_in, brings_nothing, usable_after}
 use Rattle.path_claims.proofs.StationTables.{outline_long}

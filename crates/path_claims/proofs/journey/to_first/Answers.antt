@@ -1,7 +1,7 @@
 use Rattle.std.proofs.Common.{◌≡◌, List, length, ap, arith}
 use Rattle.std.proofs.lemmas.Result.{err_from_is_err_and}
 use Rattle.problem_core.specs.declared.parts.Mark.{Mark}
-use Rattle.path_checker.proofs.Walking.WayBegins.{no_spot}
+use Rattle.path_claims.proofs.Walking.WayBegins.{no_spot}
 use Rattle.path_claims.proofs.JourneySteps.{corner_then, journey_done, journey_ends, journey_more, next_mark}
 use Rattle.path_claims.proofs.journey.to_first.Goals as goal
 

@@ -2,7 +2,7 @@ use Rattle.std.proofs.Common.{◌≡◌, ◌∙◌, ◌<◌, length, sym, ap, ar
 use Rattle.std.specs.Prelude.{slice_index_or}
 use Rattle.std.proofs.lemmas.List.{get_or_default}
 use Rattle.std.proofs.lemmas.Result.{err_from_is_err_and}
-use Rattle.path_checker.proofs.Iffs.{right_then, wrong_then}
+use Rattle.path_lines.proofs.Iffs.{right_then, wrong_then}
 use Rattle.path_claims.specs.declared.stations.Station.{Station}
 use Rattle.path_claims.proofs.JourneySteps.{mark_came, mark_stopped, mark_was_inside}
 use Rattle.path_claims.proofs.StationTables.{outline_long}

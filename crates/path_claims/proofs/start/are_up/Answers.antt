@@ -1,9 +1,9 @@
 use Rattle.std.proofs.Common.{◌≡◌, ℕ, rules, arith, sym, subst, inl, inr, false, true, refl}
 use Rattle.std.proofs.lemmas.Bool.{cases_eq}
-use Rattle.path_checker.specs.Route.{over_marks}
-use Rattle.path_checker.specs.Tables.{IsLineAt, IsUp, name_at}
-use Rattle.path_checker.proofs.Walking.FirstCorner.{begins_there}
-use Rattle.path_checker.proofs.Iffs.{never, right_then, wrong_then}
+use Rattle.path_lines.specs.Route.{over_marks}
+use Rattle.path_lines.specs.Tables.{IsLineAt, IsUp, name_at}
+use Rattle.path_lines.proofs.Walking.FirstCorner.{begins_there}
+use Rattle.path_lines.proofs.Iffs.{never, right_then, wrong_then}
 use Rattle.path_claims.proofs.start.are_up.Goals as goal
 
 pub returns-then-not-is_up : goal.returns-then-not-is_up

@@ -1,6 +1,6 @@
 use Rattle.std.proofs.Common.{sym, subst, subst₂, List, Option, Some}
-use Rattle.path_checker.specs.declared.table.Inside.{Inside}
-use Rattle.path_checker.specs.PathClauses.{row_of_terms}
+use Rattle.path_lines.specs.declared.table.Inside.{Inside}
+use Rattle.path_claims.specs.PathClauses.{row_of_terms}
 use Rattle.path_levels.specs.declared.outline.Outline.{Outline}
 use Rattle.path_levels.specs.declared.sums.LevelSum.{LevelSum}
 use Rattle.path_claims.specs.Begun.{IsBegun, IsWholeBegun}

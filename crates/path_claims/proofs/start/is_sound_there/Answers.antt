@@ -1,5 +1,5 @@
-use Rattle.path_checker.specs.Route.{over_marks}
-use Rattle.path_checker.proofs.Iffs.{through}
+use Rattle.path_lines.specs.Route.{over_marks}
+use Rattle.path_lines.proofs.Iffs.{through}
 use Rattle.path_claims.proofs.Beginning.StartVerdicts.{dual_sound, primal_by, sound_before, whole_lines}
 use Rattle.path_claims.proofs.start.is_sound_there.Goals as goal
 

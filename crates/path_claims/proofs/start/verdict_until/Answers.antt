@@ -1,6 +1,6 @@
 use Rattle.std.proofs.Common.{◌≡◌, ◌≢◌, ◌∙◌, rules, length, sym, subst, false, true}
-use Rattle.path_checker.proofs.Iffs.{right_then, wrong_then}
-use Rattle.path_claims.specs.declared.last.Fit.TheVariants.{Fits, NoRoom}
+use Rattle.path_lines.proofs.Iffs.{right_then, wrong_then}
+use Rattle.path_fits.specs.declared.last.Fit.TheVariants.{Fits, NoRoom}
 use Rattle.path_claims.specs.Orders.{IsFitBefore}
 use Rattle.path_claims.proofs.Beginning.StartVerdicts.{dual_has_no_room, judged_within, last_fit, primal_has_no_room, until_fits, until_unfit, until_unsound}
 use Rattle.path_claims.proofs.start.verdict_until.Goals as goal

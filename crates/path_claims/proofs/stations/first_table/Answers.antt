@@ -1,6 +1,6 @@
 use Rattle.std.proofs.Common.{◌∙◌, List, length, sym, ap, subst, Option}
-use Rattle.path_checker.specs.declared.table.Inside.{Inside}
-use Rattle.path_checker.specs.Tables.{AreSized}
+use Rattle.path_lines.specs.declared.table.Inside.{Inside}
+use Rattle.path_lines.specs.Tables.{AreSized}
 use Rattle.path_levels.specs.Levels.{AreSizedLevels}
 use Rattle.path_levels.specs.Rows.{AreKept}
 use Rattle.path_claims.proofs.Beginning.FirstAttrs.{attrs_first}

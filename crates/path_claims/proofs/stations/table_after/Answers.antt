@@ -1,7 +1,7 @@
 use Rattle.std.proofs.Common.{◌∙◌, List, length, sym, ap, subst, rules, Option}
 use Rattle.std.proofs.lemmas.Result.{err_from_is_err_and}
-use Rattle.path_checker.specs.declared.table.Inside.{Inside}
-use Rattle.path_checker.specs.Tables.{AreLines}
+use Rattle.path_lines.specs.declared.table.Inside.{Inside}
+use Rattle.path_lines.specs.Tables.{AreLines}
 use Rattle.path_levels.specs.Rows.{AreKept}
 use Rattle.path_claims.proofs.StationTables.{attrs_lead_unfit, outline_long, leads_to_table, levels_lead_unfit, lines_lead_unfit}
 use Rattle.path_claims.proofs.stations.table_after.Goals as goal

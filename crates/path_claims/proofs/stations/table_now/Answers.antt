@@ -1,4 +1,4 @@
-use Rattle.path_checker.proofs.Exchanges.Leading.{err_then}
+use Rattle.path_lines.proofs.Exchanges.Leading.{err_then}
 use Rattle.path_claims.proofs.StationTables.{table_stuck}
 use Rattle.path_claims.proofs.stations.table_now.Goals as goal
 

@@ -1,6 +1,6 @@
 use Rattle.std.proofs.Common.{◌≡◌, pos, ◌∙◌, ◌+ℤ◌, ◌*ℤ◌, ℤ, ap, ap₂, rules, SFits}
 use Rattle.std.specs.Int.{w64, w128}
-use Rattle.path_checker.specs.Numbers.{number_at}
+use Rattle.path_lines.specs.Numbers.{number_at}
 use Rattle.std.proofs.lemmas.Int.{to_z-of_z}
 use Rattle.std.proofs.lemmas.List.{get_or_default}
 use Rattle.path_levels.proofs.Exchanges.CarriedFacts.{both_fits, both_size}

@@ -1,7 +1,7 @@
 use Rattle.std.proofs.Common.{rules, sym, subst, SFits}
 use Rattle.std.specs.Int.{w64, w128}
 use Rattle.std.proofs.lemmas.Int.{to_z-of_z}
-use Rattle.path_checker.proofs.Exchanges.Leading.{ok_then}
+use Rattle.path_lines.proofs.Exchanges.Leading.{ok_then}
 use Rattle.path_levels.specs.Exchanges.Carried.{AreSharing}
 use Rattle.path_levels.specs.Outlines.{IsPriced}
 use Rattle.path_levels.proofs.Exchanges.MultipleFacts.{multiple_there}

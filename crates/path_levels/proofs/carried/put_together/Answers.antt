@@ -2,7 +2,7 @@ use Rattle.std.proofs.Common.{◌≡◌, ◌∙◌, ◌*ℤ◌, arith, rules, SF
 use Rattle.std.specs.Int.{w64, w128}
 use Rattle.std.proofs.lemmas.Int.{to_z-of_z}
 use Rattle.frac_core.specs.Fraction.{IsFitting}
-use Rattle.path_checker.specs.Numbers.{IsCombined}
+use Rattle.path_lines.specs.Numbers.{IsCombined}
 use Rattle.path_levels.proofs.Exchanges.CarriedFacts.{own_small, wide_carried, wide_sized}
 use Rattle.path_levels.proofs.carried.put_together.Goals as goal
 

@@ -1,7 +1,7 @@
 use Rattle.std.proofs.Common.{◌≡◌, ◌<◌, ℕ, true, false, refl, subst, arith, rules, inl, inr}
 use Rattle.std.proofs.lemmas.Bool.{cases_eq}
-use Rattle.path_checker.specs.Tables.{line_count}
-use Rattle.path_checker.proofs.Iffs.{always, never, right_then, wrong_then}
+use Rattle.path_lines.specs.Tables.{line_count}
+use Rattle.path_lines.proofs.Iffs.{always, never, right_then, wrong_then}
 use Rattle.path_levels.specs.Costs.{HasNegative}
 use Rattle.path_levels.proofs.Judging.LineCosts.{all_decided}
 use Rattle.path_levels.proofs.columns.has_no_negative_column.Goals as goal

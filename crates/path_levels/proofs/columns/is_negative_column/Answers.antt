@@ -1,6 +1,6 @@
 use Rattle.std.proofs.Common.{◌↔◌, ◌<◌, IsTrue, length, false, refl, sym, subst, arith, Some, None, get_or}
-use Rattle.path_checker.specs.Tables.{IsLineAt, line_count, name_at}
-use Rattle.path_checker.proofs.Iffs.{never}
+use Rattle.path_lines.specs.Tables.{IsLineAt, line_count, name_at}
+use Rattle.path_lines.proofs.Iffs.{never}
 use Rattle.path_levels.specs.declared.outline.LineFacts.{LineFacts}
 use Rattle.path_levels.specs.declared.sums.LevelSum.{LevelSum}
 use Rattle.path_levels.specs.Costs.{IsNegativeFirst, cost_in}

@@ -1,7 +1,7 @@
 use Rattle.std.proofs.Common.{◌<◌, ◌↔◌, IsTrue, false, refl, subst, arith, All}
 use Rattle.problem_core.specs.Corners.{exchanged}
-use Rattle.path_checker.specs.Tables.{line_count, swap_of}
-use Rattle.path_checker.proofs.Iffs.{never}
+use Rattle.path_lines.specs.Tables.{line_count, swap_of}
+use Rattle.path_lines.proofs.Iffs.{never}
 use Rattle.path_levels.specs.declared.columns_after.WideLevel.{WideLevel}
 use Rattle.path_levels.specs.declared.outline.LineFacts.{LineFacts}
 use Rattle.path_levels.specs.Exchanges.WideCosts.{IsSizedWide, IsWideNegative}

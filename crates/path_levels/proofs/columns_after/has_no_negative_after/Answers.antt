@@ -1,8 +1,8 @@
 use Rattle.std.proofs.Common.{◌≡◌, ◌<◌, ℕ, true, false, refl, subst, arith, rules, inl, inr}
 use Rattle.std.proofs.lemmas.Bool.{cases_eq}
 use Rattle.problem_core.specs.Corners.{exchanged}
-use Rattle.path_checker.specs.Tables.{line_count, swap_of}
-use Rattle.path_checker.proofs.Iffs.{always, never, right_then, wrong_then}
+use Rattle.path_lines.specs.Tables.{line_count, swap_of}
+use Rattle.path_lines.proofs.Iffs.{always, never, right_then, wrong_then}
 use Rattle.path_levels.specs.Costs.{HasNegative}
 use Rattle.path_levels.proofs.Judging.AfterCosts.{there_after, wide_all}
 use Rattle.path_levels.proofs.columns_after.has_no_negative_after.Goals as goal

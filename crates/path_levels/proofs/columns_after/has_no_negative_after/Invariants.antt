@@ -2,7 +2,7 @@ use Rattle.std.proofs.Common.{ℕ, ◌<◌, List}
 use Rattle.problem_core.specs.declared.parts.Mark.{Mark}
 use Rattle.problem_core.specs.Layout.{Problem}
 use Rattle.problem_core.specs.Corners.{IsExchange, exchanged}
-use Rattle.path_checker.specs.Tables.{swap_of}
+use Rattle.path_lines.specs.Tables.{swap_of}
 use Rattle.path_levels.specs.Costs.{HasNegative}
 use Rattle.path_levels.specs.Rows.{AreKept}
 use Rattle.path_levels.specs.Exchanges.WideCosts.{AreWideAt}

@@ -1,8 +1,8 @@
 use Rattle.std.proofs.Common.{List, subst, sym}
 use Rattle.problem_core.specs.Corners.{exchanged}
-use Rattle.path_checker.specs.declared.spots.Step.{Step}
-use Rattle.path_checker.specs.Tables.{swap_of}
-use Rattle.path_checker.proofs.Stops.{is_refused}
+use Rattle.path_lines.specs.declared.spots.Step.{Step}
+use Rattle.path_lines.specs.Tables.{swap_of}
+use Rattle.path_lines.proofs.Stops.{is_refused}
 use Rattle.path_levels.specs.declared.columns_after.WideLevel.{WideLevel}
 use Rattle.path_levels.specs.Exchanges.WideCosts.{AreWideAt}
 use Rattle.path_levels.proofs.columns_after.has_no_negative_column_after.Goals as goal

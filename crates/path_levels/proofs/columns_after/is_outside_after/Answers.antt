@@ -1,5 +1,5 @@
 use Rattle.std.proofs.Common.{◌<◌, sym, subst, arith, Some, None}
-use Rattle.path_checker.specs.Tables.{IsLineAt, line_count, name_at}
+use Rattle.path_lines.specs.Tables.{IsLineAt, line_count, name_at}
 use Rattle.path_levels.proofs.Judging.AfterCosts.{entered_inside, kept_inside, kept_outside, left_outside}
 use Rattle.path_levels.proofs.columns_after.is_outside_after.Goals as goal
 

@@ -4,8 +4,8 @@ use Rattle.std.proofs.lemmas.Int.{to_z-of_z}
 use Rattle.std.proofs.lemmas.List.{length_push}
 use Rattle.problem_core.specs.declared.parts.Mark.{Mark}
 use Rattle.problem_core.specs.Layout.{Problem}
-use Rattle.path_checker.specs.Exchanges.Pivots.{next_marks}
-use Rattle.path_checker.proofs.Iffs.{one_more}
+use Rattle.path_lines.specs.Exchanges.Pivots.{next_marks}
+use Rattle.path_lines.proofs.Iffs.{one_more}
 use Rattle.path_levels.specs.declared.columns_after.WideLevel.{WideLevel}
 use Rattle.path_levels.specs.Outlines.{IsOutline, number_at}
 use Rattle.path_levels.specs.Levels.{AreLevels, IsLevelSum}

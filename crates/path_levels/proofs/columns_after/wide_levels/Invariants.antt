@@ -1,7 +1,7 @@
 use Rattle.std.proofs.Common.{◌≡◌, ℕ, ◌<◌, List, length, get_or}
 use Rattle.problem_core.specs.declared.parts.Mark.{Mark}
 use Rattle.problem_core.specs.Layout.{Problem}
-use Rattle.path_checker.specs.Exchanges.Pivots.{next_marks}
+use Rattle.path_lines.specs.Exchanges.Pivots.{next_marks}
 use Rattle.path_levels.specs.declared.columns_after.WideLevel.{WideLevel}
 use Rattle.path_levels.specs.Outlines.{IsOutline, number_at}
 use Rattle.path_levels.specs.Levels.{AreLevels}

@@ -1,5 +1,5 @@
 use Rattle.std.proofs.Common.{◌≡◌, false, refl, get_or, length}
-use Rattle.path_checker.proofs.Iffs.{never}
+use Rattle.path_lines.proofs.Iffs.{never}
 use Rattle.path_levels.proofs.Judging.LevelEnds.{first_is, never_without, none_first}
 use Rattle.path_levels.proofs.ends.costs_above.Goals as goal
 

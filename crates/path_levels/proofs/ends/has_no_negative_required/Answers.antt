@@ -1,8 +1,8 @@
 use Rattle.std.proofs.Common.{◌≡◌, ◌∙◌, ◌<◌, ℕ, true, false, refl, sym, subst, arith, inl, inr, get_or, slice_index_or, None}
 use Rattle.std.proofs.lemmas.Bool.{cases_eq}
 use Rattle.std.proofs.lemmas.List.{get_or_default}
-use Rattle.path_checker.specs.Tables.{line_count}
-use Rattle.path_checker.proofs.Iffs.{always, never, right_then, wrong_then}
+use Rattle.path_lines.specs.Tables.{line_count}
+use Rattle.path_lines.proofs.Iffs.{always, never, right_then, wrong_then}
 use Rattle.path_levels.specs.declared.sums.LevelSum.{LevelSum}
 use Rattle.path_levels.specs.declared.outline.LineFacts.{LineFacts}
 use Rattle.path_levels.specs.Required.{IsBelow}

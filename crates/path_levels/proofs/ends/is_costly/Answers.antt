@@ -1,4 +1,4 @@
-use Rattle.path_checker.proofs.Iffs.{never, right_then, through, wrong_then}
+use Rattle.path_lines.proofs.Iffs.{never, right_then, through, wrong_then}
 use Rattle.path_levels.proofs.Judging.LevelEnds.{costly_decided, no_required}
 use Rattle.path_levels.proofs.ends.is_costly.Goals as goal
 

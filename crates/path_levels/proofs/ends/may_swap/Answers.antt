@@ -1,6 +1,6 @@
 use Rattle.std.proofs.Common.{◌<◌, Bool, IsTrue, ◌↔◌, sym, subst, arith}
 use Rattle.problem_core.specs.Changes.Paths.{MaySwap}
-use Rattle.path_checker.specs.Tables.{IsLineAt, line_count, mark_of, name_at, swap_of}
+use Rattle.path_lines.specs.Tables.{IsLineAt, line_count, mark_of, name_at, swap_of}
 use Rattle.path_levels.proofs.ends.may_swap.Goals as goal
 
 pub returns-then-dual : goal.returns-then-dual

@@ -3,7 +3,7 @@ use Rattle.std.specs.Int.{w128}
 use Rattle.std.proofs.lemmas.Int.{to_z-of_z}
 use Rattle.std.proofs.lemmas.Result.{err_from_is_err_and}
 use Rattle.frac_core.specs.Fraction.{Fraction}
-use Rattle.path_checker.specs.Numbers.{AreFitting, AreLowest}
+use Rattle.path_lines.specs.Numbers.{AreFitting, AreLowest}
 use Rattle.path_levels.specs.Joins.{IsJoinedCost, IsJoinedList, IsRise}
 use Rattle.path_levels.proofs.Joining.JoinShares.{unit_bound}
 use Rattle.path_levels.proofs.joins.joined.Goals as goal

@@ -2,7 +2,7 @@ use Rattle.std.proofs.Common.{◌≡◌, ◌∙◌, ◌*◌, ◌*ℤ◌, ◌<◌
 use Rattle.std.specs.Int.{w128}
 use Rattle.std.proofs.lemmas.Int.{to_z-of_z, unsigned_abs-mul}
 use Rattle.frac_core.specs.Fraction.{IsFitting}
-use Rattle.path_checker.specs.Numbers.{IsCombined}
+use Rattle.path_lines.specs.Numbers.{IsCombined}
 use Rattle.path_levels.specs.Joins.{counted_number}
 use Rattle.path_levels.proofs.Exchanges.CarriedFacts.{own_small}
 use Rattle.path_levels.proofs.Joining.JoinShares.{risen_scale, unit_bound}

@@ -3,8 +3,8 @@ use Rattle.std.specs.Int.{w64}
 use Rattle.std.proofs.lemmas.Bool.{eqb-true}
 use Rattle.std.proofs.lemmas.Int.{to_z-of_z}
 use lib.Dec.{eqb}
-use Rattle.path_checker.specs.Numbers.{number_at}
-use Rattle.path_checker.proofs.CornerNumbers.Pairs.{not_both}
+use Rattle.path_lines.specs.Numbers.{number_at}
+use Rattle.path_lines.proofs.Pairs.{not_both}
 use Rattle.path_levels.proofs.Exchanges.Untouched.{untouched_next}
 use Rattle.path_levels.proofs.levels_after.is_touched.Goals as goal
 

@@ -2,7 +2,7 @@ use Rattle.std.proofs.Common.{◌≡◌, ◌∙◌, length, true, false, rules, 
 use Rattle.std.specs.Int.{w64}
 use Rattle.std.proofs.lemmas.Int.{to_z-of_z}
 use Rattle.std.proofs.lemmas.Result.{err_from_is_err_and}
-use Rattle.path_checker.proofs.Iffs.{right_then, wrong_then}
+use Rattle.path_lines.proofs.Iffs.{right_then, wrong_then}
 use Rattle.path_levels.specs.Exchanges.FitsAfter.{IsFitLevel, IsMadeLevel}
 use Rattle.path_levels.specs.Outlines.{IsPriced}
 use Rattle.path_levels.specs.Shares.{entering_of}

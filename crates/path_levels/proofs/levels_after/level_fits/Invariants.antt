@@ -1,6 +1,6 @@
 use Rattle.std.proofs.Common.{ℕ, ◌<◌, ◌*ℤ◌, get_or}
 use Rattle.frac_core.specs.Fraction.{IsFitting}
-use Rattle.path_checker.specs.Numbers.{number_at}
+use Rattle.path_lines.specs.Numbers.{number_at}
 use Rattle.path_levels.specs.declared.outline.LineFacts.{LineFacts}
 use Rattle.path_levels.specs.Exchanges.FitsAfter.{IsFitLine, side_of_after}
 use Rattle.path_levels.proofs.levels_after.level_fits.Given as goal

@@ -1,7 +1,7 @@
 use Rattle.std.proofs.Common.{◌≡◌, ◌∙◌, ◌<◌, get_or, length, arith}
 use Rattle.std.proofs.lemmas.List.{get_or_default}
 use Rattle.std.proofs.lemmas.Result.{err_from_is_err_and}
-use Rattle.path_checker.proofs.Replacing.{none_done, one_replaced, one_stays}
+use Rattle.path_lines.proofs.Replacing.{none_done, one_replaced, one_stays}
 use Rattle.path_levels.specs.declared.sums.LevelSum.{LevelSum}
 use Rattle.path_levels.specs.Levels.{IsSizedLevel}
 use Rattle.path_levels.proofs.Exchanges.AllNextLevels.{IsNextAt, all_next, one_unfit}

@@ -1,5 +1,5 @@
 use Rattle.std.proofs.Common.{◌≡◌, length}
-use Rattle.path_checker.proofs.Replacing.{AreDoneTo}
+use Rattle.path_lines.proofs.Replacing.{AreDoneTo}
 use Rattle.path_levels.specs.Levels.{IsSizedLevel}
 use Rattle.path_levels.proofs.Exchanges.AllNextLevels.{IsNextAt}
 use Rattle.path_levels.proofs.levels_after.levels_by.Given as goal

@@ -2,7 +2,7 @@ use Rattle.std.proofs.Common.{◌≡◌, ◌*ℤ◌, ◌<ℤ◌, ℤ, pos, rules
 use Rattle.std.specs.Int.{w64, w128}
 use Rattle.std.proofs.lemmas.Int.{to_z-of_z}
 use Rattle.frac_core.specs.Fraction.{IsFitting}
-use Rattle.path_checker.specs.Numbers.{IsFactor}
+use Rattle.path_lines.specs.Numbers.{IsFactor}
 use Rattle.path_levels.proofs.levels_after.ratio_of.Goals as goal
 use Rattle.frac_core.proofs.Fitting.{fits-signed as one_fits}
 use Rattle.frac_core.proofs.Numbers.{product-up as positive_product}

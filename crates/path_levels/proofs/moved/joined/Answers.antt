@@ -3,7 +3,7 @@ use Rattle.std.specs.Int.{w128}
 use Rattle.std.proofs.lemmas.Int.{to_z-of_z}
 use Rattle.path_levels.proofs.Results.{onerr_then}
 use Rattle.frac_core.specs.declared.frac.TheConstants.{PART_BOUND}
-use Rattle.path_checker.proofs.Exchanges.Leading.{ok_then}
+use Rattle.path_lines.proofs.Exchanges.Leading.{ok_then}
 use Rattle.path_levels.specs.Exchanges.Moved.{IsLowestPart}
 use Rattle.path_levels.proofs.Exchanges.MovedValues.{joint_ratio, joint_unfit, num_unfit, rest_unfit, share_small}
 use Rattle.path_levels.proofs.moved.joined.Goals as goal

@@ -1,7 +1,7 @@
 use Rattle.std.proofs.Common.{◌≡◌, ◌*ℤ◌, ◌<ℤ◌, ℤ, pos, sym, subst, subst₂, SFits, rules}
 use Rattle.std.specs.Int.{w128}
 use Rattle.std.proofs.lemmas.Int.{to_z-of_z}
-use Rattle.path_checker.proofs.Exchanges.Leading.{ok_then}
+use Rattle.path_lines.proofs.Exchanges.Leading.{ok_then}
 use Rattle.path_levels.proofs.Results.{onerr_then}
 use Rattle.path_levels.specs.Exchanges.Moved.{IsLowestPart}
 use Rattle.path_levels.proofs.Exchanges.MovedValues.{moved_ratio, moved_unfit}

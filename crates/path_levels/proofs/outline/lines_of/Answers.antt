@@ -1,7 +1,7 @@
 use Rattle.std.proofs.Common.{◌≡◌, ◌∙◌, ℕ, ◌+◌, ◌<◌, List, length, get_or, sym, ap, subst, arith}
 use Rattle.problem_core.specs.declared.parts.Stay.{Stay}
-use Rattle.path_checker.specs.Tables.{line_count}
-use Rattle.path_checker.proofs.Walking.FirstLines.{count_lines}
+use Rattle.path_lines.specs.Tables.{line_count}
+use Rattle.path_lines.proofs.Walking.FirstLines.{count_lines}
 use Rattle.path_levels.specs.declared.outline.LineFacts.{LineFacts}
 use Rattle.path_levels.specs.OutlineParts.{AreFactsTo}
 use Rattle.path_levels.proofs.OutlineParts.{stay_more}

@@ -1,7 +1,7 @@
 use Rattle.std.proofs.Common.{◌≡◌, ◌∙◌, length, get_or, sym, None, Some}
 use Rattle.std.proofs.lemmas.List.{get_or_default}
-use Rattle.path_checker.specs.Tables.{IsSized}
-use Rattle.path_checker.proofs.Exchanges.Leading.{err_then}
+use Rattle.path_lines.specs.Tables.{IsSized}
+use Rattle.path_lines.proofs.Exchanges.Leading.{err_then}
 use Rattle.path_levels.proofs.Exchanges.PivotFacts.{none_enters, pivot_is, sized_line}
 use Rattle.path_levels.proofs.Results.{ok_both}
 use Rattle.path_levels.proofs.pivots.pivot_of.Goals as goal

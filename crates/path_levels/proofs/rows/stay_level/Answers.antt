@@ -1,7 +1,7 @@
 use Rattle.std.proofs.Common.{◌≡◌, ◌≢◌, ◌∙◌, ◌<◌, ℕ, List, length, get_or, All, take, sym, subst, arith, None}
 use Rattle.std.specs.declared.option.Option.{Option}
 use Rattle.std.proofs.lemmas.List.{get_or_default}
-use Rattle.path_checker.specs.declared.table.Inside.{Inside}
+use Rattle.path_lines.specs.declared.table.Inside.{Inside}
 use Rattle.path_levels.specs.declared.outline.Outline.{Outline}
 use Rattle.path_levels.specs.declared.outline.LineFacts.{LineFacts}
 use Rattle.std.specs.List.{HoldsAt}

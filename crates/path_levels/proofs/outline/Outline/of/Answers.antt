@@ -1,6 +1,6 @@
 use Rattle.std.proofs.Common.{List, length, ap, subst}
 use Rattle.problem_core.specs.Layout.{Row}
-use Rattle.path_checker.specs.Tables.{line_count}
+use Rattle.path_lines.specs.Tables.{line_count}
 use Rattle.path_levels.specs.declared.outline.LevelFacts.{LevelFacts}
 use Rattle.path_levels.specs.OutlineParts.{AreFactsTo}
 use Rattle.path_levels.proofs.OutlineParts.{is_outline, sized_outline}

@@ -1,4 +1,0 @@
--- Small cases of the words of a path.
-pub mod SideExamples
-pub mod WayExamples
-pub mod Instances

@@ -1,5 +1,0 @@
--- The marks of a corner by their lines, and corners that are different.
-pub mod SidesApart
-pub mod TakenMarks
-pub mod Pigeons
-pub mod Walks

@@ -1,8 +1,0 @@
--- The checker's route: where it begins, the way to a path's first corner, and along its swaps.
-pub mod Bringing
-pub mod GivingWay
-pub mod FirstCorner
-pub mod FirstLines
-pub mod WaySteps
-pub mod WayBegins
-pub mod Following

@@ -1,5 +1,0 @@
-use Rattle.path_checker.specs.Walking.FirstLines.{AreFirstLines}
-use Rattle.path_checker.proofs.first.held_lines.Given as goal
-
-abbrev pub invariant-loop-r : goal.invariant-loop-r
-invariant-loop-r l = AreFirstLines l.p l.r-index l.out.items

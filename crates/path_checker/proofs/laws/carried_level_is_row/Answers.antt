@@ -1,5 +1,0 @@
-use Rattle.path_checker.proofs.Exchanges.CarriedLevels.{carried_level_is_row}
-use Rattle.path_checker.proofs.laws.carried_level_is_row.Goals as goal
-
-pub returns : goal.returns
-returns c = carried_level_is_row

@@ -1,5 +1,0 @@
-use Rattle.path_checker.proofs.Exchanges.EnteringLine.{entering_is_equation}
-use Rattle.path_checker.proofs.laws.entering_is_equation.Goals as goal
-
-pub returns : goal.returns
-returns c = entering_is_equation

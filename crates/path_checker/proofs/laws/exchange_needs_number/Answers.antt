@@ -1,5 +1,0 @@
-use Rattle.path_checker.proofs.Walking.Bringing.{exchange_needs_number}
-use Rattle.path_checker.proofs.laws.exchange_needs_number.Goals as goal
-
-pub returns : goal.returns
-returns c = exchange_needs_number

@@ -1,5 +1,0 @@
-use Rattle.path_checker.proofs.Exchanges.CarriedSums.{leaving_is_pivot}
-use Rattle.path_checker.proofs.laws.leaving_is_pivot.Goals as goal
-
-pub returns : goal.returns
-returns c = leaving_is_pivot

@@ -1,5 +1,0 @@
-use Rattle.path_checker.proofs.Walking.Bringing.{none_gives_way}
-use Rattle.path_checker.proofs.laws.none_gives_way.Goals as goal
-
-pub returns : goal.returns
-returns c = none_gives_way

@@ -1,5 +1,0 @@
-use Rattle.path_checker.proofs.Verdicts.{path_is_its_clauses}
-use Rattle.path_checker.proofs.laws.path_is_its_clauses.Goals as goal
-
-pub returns : goal.returns
-returns c = path_is_its_clauses

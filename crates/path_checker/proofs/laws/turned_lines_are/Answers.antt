@@ -1,5 +1,0 @@
-use Rattle.path_checker.proofs.Exchanges.Turning.{turned_lines_are}
-use Rattle.path_checker.proofs.laws.turned_lines_are.Goals as goal
-
-pub returns : goal.returns
-returns c = turned_lines_are

@@ -1,5 +1,0 @@
-use Rattle.path_checker.proofs.Arithmetic.Unfits.{unfit_list_is_unfit}
-use Rattle.path_checker.proofs.laws.unfit_list_is_unfit.Goals as goal
-
-pub returns : goal.returns
-returns c = unfit_list_is_unfit

@@ -1,6 +1,0 @@
-use Rattle.std.proofs.Common.{length, ◌+◌}
-use Rattle.path_checker.specs.Walking.Ways.{AreFirstSides}
-use Rattle.path_checker.proofs.way.first_sides.Given as goal
-
-abbrev pub invariant-loop : goal.invariant-loop
-invariant-loop l = AreFirstSides l.p (length l.p.rows + l.counter) l.out.items

@@ -1,5 +1,0 @@
-use Rattle.path_checker.specs.Walking.Ways.{AreFirstSides}
-use Rattle.path_checker.proofs.way.held_sides.Given as goal
-
-abbrev pub invariant-loop : goal.invariant-loop
-invariant-loop l = AreFirstSides l.p l.counter l.out.items

@@ -1,4 +1,0 @@
--- The checker's route by what is kept of the lines: its first corner, and exchange by exchange.
-pub mod FirstLines
-pub mod Ways
-pub mod Bringing

@@ -1,0 +1,4 @@
+-- The numbers of corners.
+pub mod Trees
+pub mod Corners
+pub mod Told

@@ -1,0 +1,3 @@
+-- Small cases of the words of a path.
+pub mod WayExamples
+pub mod Instances

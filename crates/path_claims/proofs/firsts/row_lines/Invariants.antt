@@ -1,5 +1,0 @@
-use Rattle.path_claims.specs.FirstSums.{AreMade}
-use Rattle.path_claims.proofs.firsts.row_lines.Given as goal
-
-abbrev pub invariant-loop-r : goal.invariant-loop-r
-invariant-loop-r l = AreMade l.p l.r-index l.lines.items

@@ -1,5 +1,0 @@
-use Rattle.path_claims.specs.Sums.{IsUnitList}
-use Rattle.path_claims.proofs.last.line_sums.unit_numbers.Given as goal
-
-abbrev pub invariant-loop-place : goal.invariant-loop-place
-invariant-loop-place l = IsUnitList l.place l.fn.at l.out.items

@@ -1,0 +1,2 @@
+pub mod LastCorner
+pub mod Beginning

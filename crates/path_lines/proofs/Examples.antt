@@ -1,0 +1,2 @@
+-- Small cases of the words of a path.
+pub mod SideExamples

@@ -1,0 +1,10 @@
+pub mod Stops
+pub mod Exchanges
+pub mod Arithmetic
+pub mod Walking
+pub mod Places
+pub mod Replacing
+pub mod MarkSides
+pub mod Iffs
+pub mod Examples
+pub mod Pairs

@@ -1,0 +1,10 @@
+pub mod Stops
+pub mod Numbering
+pub mod Numbers
+pub mod Tables
+pub mod Exchanges
+pub mod Route
+pub mod Walking
+pub mod Room
+pub mod Laws
+pub mod Sides

@@ -1,0 +1,58 @@
+//! A corner's lines in whole numbers, for a checker of paths that shares no code with the engine.
+//!
+//! What each corner's lines are is kept exactly; what levels cost there is kept in `path_levels`, what fits
+//! where not all has to fit is asked of `path_fits`, and `path_claims` makes the checker's route and answers.
+//!
+//! What the kept lines of a corner keep: one `Option<Inside>` a line, None of a line that is outside, else
+//! which of its marks is inside and the equation of its deviation, in whole numbers without a common factor,
+//! each below 2^42 in size. [`first_lines`] are those where the over marks of the held rows are inside.
+//! [`is_exchange`] is exact; [`after_exchange`] gives the next corner's lines, or something doesn't fit
+//! there.
+//!
+//! ```
+//! // a row 1: attribute 1 is at least 5; there its stay gives way to the row's over mark
+//! let lines = first_lines(alloc, &problem)?;
+//! let names = names(alloc, &problem)?;
+//! if let Some(steps) = steps_of(alloc, &names, &[there])? {    // by the places of its lines
+//!     is_exchange(&lines, steps[0]);                           // true
+//! }
+//! ```
+//!
+//! Linear programming's words: the marks inside are the basis, each of them the slack or the surplus
+//! variable of its line, and the others are 0; the equation of an inside line is a row of the tableau; an
+//! exchange is a pivot. No ratio test is made here, and no reduced cost is kept.
+//!
+//! The laws, each the contract of a function that does nothing, say why these numbers are the next corner's
+//! equations, that a route may begin where it does, and why a set of marks to which no inside mark gives way
+//! is no corner.
+//!
+//! In reading order: `spots` (marks by place), `table` (a corner's lines), `stop` (why a sum isn't made),
+//! `numbers` (lowest terms), `exchange`, `signs` (of values), `first` (the lines where a route begins),
+//! `laws`, `costs` (what a line costs).
+#![tactic(auto)]
+
+mod costs;
+mod exchange;
+mod first;
+mod laws;
+mod numbers;
+mod signs;
+mod spots;
+mod stop;
+mod table;
+
+pub use costs::weights;
+pub use exchange::{
+    Pivot, after_exchange, carried, is_exchange, number_of, pair_product, solved_from, sum_of,
+};
+pub use first::{first_lines, first_sum, stay_of, with_stays, zeros};
+pub use laws::{
+    apart_by_sides, begins_there, carried_is_equation, carried_level_is_row, entering_is_equation,
+    exchange_needs_number, leaving_is_pivot, none_gives_way, one_mark_of_line, solved_is_pivot,
+    turned_lines_are, unfit_list_is_unfit,
+};
+pub use numbers::{Lowest, Ratio, Wide, combined, in_lowest_terms, moved_sign};
+pub use signs::{has_no_negative_value, is_down, is_on_side, is_up};
+pub use spots::{Spot, Step, names, spot_of, steps_of};
+pub use stop::SumStop;
+pub use table::{Inside, Sum};
