@@ -1,7 +1,7 @@
 // The levels of a certificate, with the places of their lines.
 ghost use Rattle.std.specs.Prelude.{◌≡◌, ◌+◌, ◌↔◌, All, IsTrue, IfOk};
 ghost use Rattle.std.specs.Prelude.{IfSome, IfNone};
-ghost use Rattle.cert_core.specs.Claims.{IsLevel, IsPlace, level_at};
+ghost use Rattle.cert_core.specs.Claims.{IsLevel, IsRanked, level_at};
 ghost use Rattle.cert_checker.specs.Certifying.{HasLevel};
 ghost use Rattle.cert_checker.specs.LinePlaces.{ArePlaces, AreWeighed};
 ghost use Rattle.cert_checker.specs.PlacedLevels.{ArePlaced, BalancesAt, CancelAt, IsPlaced};
@@ -24,7 +24,7 @@ pub(crate) struct PlacedLevel {
 // The place of a level, strongest first, if it is one of the problem's.
 fn level_place(p: &Problem, places: &Places, level: Level) -> Option<usize>
     requires places { ArePlaces p.now places.now }
-    requires place { IsPlace level }
+    requires ranked { IsRanked level }
     ensures some { IfSome result (λ k. level_at p.now k ≡ level) }
     ensures held { IfSome result (λ _. HasLevel p.now level) }
     ensures none { IfNone result (HasLevel p.now level → ⊥) }

@@ -25,13 +25,13 @@ pub record BestLevel : Type 0 where
   pub by : List By
 
 -- a priority is at most that of required rows
-abbrev pub IsPlace : Level → Type 0
-IsPlace (Priority rank) = rank ≤ REQUIRED
-IsPlace (StayLevel attr) = Unit {0}
+abbrev pub IsRanked : Level → Type 0
+IsRanked (Priority rank) = rank ≤ REQUIRED
+IsRanked (StayLevel attr) = Unit {0}
 
 -- the level may be named, its scale and its multipliers fit, and no row stands twice among them
 pub record IsLevel (l : BestLevel) : Type 0 where
-  pub place : IsPlace l.level
+  pub ranked : IsRanked l.level
   pub scale : IsFitting l.scale
   pub by : AreBys l.by
 

@@ -14,7 +14,7 @@ use Rattle.problem_core.specs.declared.parts.Mark.{Mark}
 use Rattle.problem_core.specs.declared.parts.RowName.{RowName}
 use Rattle.problem_core.specs.Layout.{Problem, lines}
 use Rattle.cert_core.specs.declared.by.By.{By}
-use Rattle.cert_core.specs.Claims.{BestLevel, IsLevel, IsPlace}
+use Rattle.cert_core.specs.Claims.{BestLevel, IsLevel, IsRanked}
 use Rattle.cert_checker.specs.LinePlaces.{names}
 use Rattle.corner.specs.Views.{IsInUse, IsKeptCorner, IsStronger}
 use Rattle.certificates.specs.OwnLevels.{HasNoNeed, IsOwnBest, IsOwnLevel, multiplied, nonzero_times}
@@ -75,16 +75,16 @@ own_level p at level items scale factor low by kept used d =
       lowest = no_factor (unsigned_abs factor) scale low items by f.0 same d.by_is d.greatest;
     }
 
-is-place : (p : Problem) (level : Level) → IsInUse p level → IsPlace level
-is-place p (Priority rank) (i, x, within, is, h) = omega (arith, h)
-is-place p (StayLevel attr) used = tt
+is-ranked : (p : Problem) (level : Level) → IsInUse p level → IsRanked level
+is-ranked p (Priority rank) (i, x, within, is, h) = omega (arith, h)
+is-ranked p (StayLevel attr) used = tt
 
 pub level_kept : (p : Problem) (at : List Mark) (level : Level) (items : List By) (factor : ℕ) (low : ℤ) (by : List By) → IsKeptCorner p at → IsInUse p level → IsRead p at level items → multiplied factor by ≡ items → IsFitting low → All (λ b. IsFitting b.times) by
     → IsLevel (record { level = level; scale = low; by = by })
 level_kept p at level items factor low by kept used read same fits all =
     let n = numbers_exist p at level kept (used_is_level p level used) in
     record {
-      place = is-place p level used;
+      ranked = is-ranked p level used;
       scale = fits;
       by = record {
         fitting = all;

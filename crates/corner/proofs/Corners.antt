@@ -1,3 +1,4 @@
 -- A corner, and a new one.
 pub mod CornerFacts
 pub mod NewCorners
+pub mod MovedCorners

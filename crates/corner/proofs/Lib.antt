@@ -6,3 +6,5 @@ pub mod Shifts
 pub mod Attributes
 pub mod Additions
 pub mod Removals
+pub mod Safety
+pub mod LowMarks

@@ -2,3 +2,4 @@
 pub mod ColumnReturns
 pub mod CandidatesAfter
 pub mod NextConsistent
+pub mod SettledNext

@@ -1,4 +1,6 @@
 // A problem and one of its corners.
+mod moved;
+
 ghost use Rattle.std.specs.Prelude.{◌≡◌, ◌≢◌, ◌<◌, ◌≤◌, ◌↔◌, ◌-◌, ◌+◌, ℕ, List, [], ◌∷◌, pos, length};
 ghost use Rattle.std.specs.Prelude.{false, take, true, All, AllPairs, Any, Contains, IfOk, IfErr, IfSome};
 ghost use Rattle.std.specs.Prelude.{IfNone};
@@ -19,7 +21,7 @@ ghost use Rattle.problem_core.specs.declared.parts.RowName as row_type;
 ghost use Rattle.problem_core.specs.declared.stops.What as what_type;
 ghost use Rattle.problem_core.specs.declared.stops.What.TheVariants.{Mark as MarkOf};
 ghost use Rattle.version_list.specs.declared.TheConstants.{VERSION_LIMIT};
-ghost use Rattle.corner.specs.Views.{AreCandidates, AreMovers, HasNoFront, HasNumbers};
+ghost use Rattle.corner.specs.Views.{AreCandidates, AreFrontsOf, AreMovers, HasNoFront, HasNumbers};
 ghost use Rattle.corner_writings.specs.Entries.{AreEntries};
 ghost use Rattle.corner_writings.specs.Growing.{AreGrowersDear};
 ghost use Rattle.corner_writings.specs.Lows.{ListsLow};
@@ -31,6 +33,10 @@ ghost use Rattle.corner.specs.Views.{IsStronger, IsWritten, MovesWith};
 ghost use Rattle.corner.specs.Changes.{AllSumsFit, HasNoNegative, HasStood, IsAddStop, IsAsBefore};
 ghost use Rattle.corner.specs.Changes.{IsRewound};
 ghost use Rattle.corner.specs.Changes.{IsUnfitStop, scene_of};
+ghost use Rattle.corner.specs.Lows.{AreNotLow, IsLowMark};
+ghost use Rattle.corner.specs.Settled.{IsSettledAt, IsSettledBy};
+ghost use Rattle.corner.specs.Safe.{AreSafe};
+ghost use Rattle.corner_table.specs.declared.table.TheConstants.{LEVELS};
 ghost use Rattle.corner_laws.specs.Lifts.{with_rows};
 ghost use Rattle.corner_lines.specs.Joins.{with_attr};
 ghost use Rattle.corner.specs.Shifts.Shifting.{IsNear};
@@ -41,6 +47,7 @@ ghost use Rattle.corner_exchange.specs.Swaps.Exchanges.{CanExchange, IsPairStop}
 ghost use Rattle.corner_exchange.specs.Swaps.TurnedLevels.{CanTurnTo, IsTurnStop};
 ghost use Rattle.corner.specs.Removals.Dropping.{AreLeftListed, dropped};
 ghost use Rattle.corner.specs.Removals.Leaving.{IsLeaver, IsLevelLeft, marks_left, problem_left};
+ghost use Rattle.corner_table.specs.Tables as tables;
 ghost use Rattle.corner_table.specs.Tables.{Lists, lists_of, marks_at, problem_of};
 ghost use Rattle.corner_table.specs.Histories.{AreAlike, lists_before};
 ghost use Rattle.stay_orders.specs.Orders.{fronted};
@@ -49,19 +56,21 @@ ghost use Rattle.corner_table.specs.Invariants.{IsConsistent, IsEarlier, view_of
 use crate::fronting::front_stays;
 use crate::leaving::dropping::{drop_line, drop_stay, list_left};
 use crate::leaving::{Leaver, Left, leaver_of, left_level};
+use crate::lows::low_mark;
+use crate::safe::{Safe, clear_safe, is_required, is_safe, no_safe, note};
 use crate::shifting::shift_row;
 use crate::standing::stand_stays;
 use cert_core::RunStop;
-use corner_exchange::{exchange_of, put_exchange, put_turn, turn_of};
+use corner_exchange::{exchange_of, put_exchange, put_turn, put_unlisted, turn_of, turn_unlisted};
 use corner_joins::{join_all, push_attr};
 use corner_table::{
-    Listed, Table, attr_slot, back, forget, level_slot, line_slot, mark, marks_with, name_at,
-    new_table, rewind,
+    Listed, Table, attr_slot, back, forget, is_level, level_slot, line_slot, mark, marks_with,
+    name_at, new_table, other, rewind, slot_at,
 };
 use corner_writings::{
-    Front, Pair, are_growers_dear, attr_value, coefficient, cost_at, denominator, entries_in,
-    entry_in, front_of, is_inside, is_stronger, list_low, mark_value, mover, movers, reduced_at,
-    scale_at, times_at, used,
+    Front, Fronts, Pair, are_growers_dear, attr_value, coefficient, cost_at, denominator,
+    entries_in, entry_in, front_of, fronts_of, is_inside, is_stronger, list_low, mark_value, mover,
+    movers, reduced_at, scale_at, times_at, used,
 };
 use frac_core::{Frac, OutOfMemory, Stop};
 use problem_core::{Level, Mark, Row, RowName, Side, Stay, TableStop, What};
@@ -74,6 +83,7 @@ use std::marker::Model;
 pub struct Corner {
     table: Table,
     listed: Listed,
+    safe: Safe,
 }
 
 // Takes back what was done since the newest mark, at which no line is listed.
@@ -161,6 +171,117 @@ fn turn_line(table: &mut Table, listed: &mut Listed, line: u32, side: Side) -> R
     }
 }
 
+// Exchanges an outside line's mark for an inside line's where no column is negative after it, and lists no
+// line.
+fn exchange_settled(table: &mut Table, listed: &mut Listed, pair: Pair) -> Result<(), TableStop>
+    requires consistent { IsConsistent table.old listed.old }
+    requires marked { 0 < length table.old.rows.before }
+    requires pair { CanExchange (lists_of table.old) pair }
+    requires settled { IsSettledBy (lists_of table.old) pair }
+    ensures consistent { IsConsistent table.new listed.new }
+    ensures before { lists_before table.new ≡ lists_before table.old }
+    ensures problem { OnOk result (problem_of (lists_of table.new) ≡ problem_of (lists_of table.old)) }
+    ensures marks { OnOk result (AreMarksBy (lists_of table.old) pair (lists_of table.new)) }
+    ensures stop { IfErr result (IsPairStop (lists_of table.old) pair) }
+    ensures same { IfErr result (IsAsBefore (view_of table.old listed.old) (view_of table.new listed.new)) }
+{
+    match exchange_of(table, pair) {
+        Ok(made) => match put_unlisted(table, made) {
+            Ok(()) => Ok(()),
+            Err(OutOfMemory) => Err(rewound(table, listed)),
+        },
+        Err(stop) => Err(not_made(table, listed, stop)),
+    }
+}
+
+// Takes a line's other mark inside where no column is negative after it, and lists no line.
+fn turn_settled(
+    table: &mut Table,
+    listed: &mut Listed,
+    line: u32,
+    side: Side,
+) -> Result<(), TableStop>
+    requires consistent { IsConsistent table.old listed.old }
+    requires marked { 0 < length table.old.rows.before }
+    requires turn { CanTurnTo (lists_of table.old) line side }
+    requires settled { IsSettledAt (lists_of table.old) line side }
+    ensures consistent { IsConsistent table.new listed.new }
+    ensures before { lists_before table.new ≡ lists_before table.old }
+    ensures problem { OnOk result (problem_of (lists_of table.new) ≡ problem_of (lists_of table.old)) }
+    ensures marks { OnOk result (AreMarksTurned (lists_of table.old) line side (lists_of table.new)) }
+    ensures stop { IfErr result (IsTurnStop (lists_of table.old) line side) }
+    ensures same { IfErr result (IsAsBefore (view_of table.old listed.old) (view_of table.new listed.new)) }
+{
+    match turn_of(table, line, side) {
+        Ok(change) => match turn_unlisted(table, line, side, change) {
+            Ok(()) => Ok(()),
+            Err(OutOfMemory) => Err(rewound(table, listed)),
+        },
+        Err(stop) => Err(not_made(table, listed, stop)),
+    }
+}
+
+// Takes a stay's other mark inside where no column is negative after it.
+fn turn_stay(
+    table: &mut Table,
+    listed: &mut Listed,
+    safe: &mut Safe,
+    line: u32,
+    side: Side,
+) -> Result<(), TableStop>
+    requires consistent { IsConsistent table.old listed.old }
+    requires marked { 0 < length table.old.rows.before }
+    requires turn { CanTurnTo (lists_of table.old) line side }
+    requires settled { IsSettledAt (lists_of table.old) line side }
+    requires safe { AreSafe (lists_of table.old) safe.old }
+    requires stay { LEVELS ≤ (tables.slot_at (lists_of table.old) line).home }
+    ensures consistent { IsConsistent table.new listed.new }
+    ensures before { lists_before table.new ≡ lists_before table.old }
+    ensures problem { OnOk result (problem_of (lists_of table.new) ≡ problem_of (lists_of table.old)) }
+    ensures marks { OnOk result (AreMarksTurned (lists_of table.old) line side (lists_of table.new)) }
+    ensures safe { AreSafe (lists_of table.new) safe.new }
+    ensures stop { IfErr result (IsTurnStop (lists_of table.old) line side) }
+    ensures same { IfErr result (IsAsBefore (view_of table.old listed.old) (view_of table.new listed.new)) }
+{
+    match turn_unlisted(table, line, side, None) {
+        Ok(()) => Ok(()),
+        Err(OutOfMemory) => {
+            clear_safe(safe);
+            Err(rewound(table, listed))
+        }
+    }
+}
+
+// Takes a line's other mark inside where no column is negative after it. A stay that is safe to turn is known
+// to be so from now on.
+fn turn_safe(
+    table: &mut Table,
+    listed: &mut Listed,
+    safe: &mut Safe,
+    line: u32,
+    side: Side,
+) -> Result<(), TableStop>
+    requires consistent { IsConsistent table.old listed.old }
+    requires marked { 0 < length table.old.rows.before }
+    requires turn { CanTurnTo (lists_of table.old) line side }
+    requires settled { IsSettledAt (lists_of table.old) line side }
+    requires safe { AreSafe (lists_of table.old) safe.old }
+    ensures consistent { IsConsistent table.new listed.new }
+    ensures before { lists_before table.new ≡ lists_before table.old }
+    ensures problem { OnOk result (problem_of (lists_of table.new) ≡ problem_of (lists_of table.old)) }
+    ensures marks { OnOk result (AreMarksTurned (lists_of table.old) line side (lists_of table.new)) }
+    ensures safe { AreSafe (lists_of table.new) safe.new }
+    ensures stop { IfErr result (IsTurnStop (lists_of table.old) line side) }
+    ensures same { IfErr result (IsAsBefore (view_of table.old listed.old) (view_of table.new listed.new)) }
+{
+    if is_level(slot_at(table, line).home) {
+        clear_safe(safe);
+        return turn_settled(table, listed, line, side);
+    }
+    note(table, safe, line, other(side));
+    turn_stay(table, listed, safe, line, side)
+}
+
 // Takes a row out of whose level this is left.
 fn put_left(
     table: &mut Table,
@@ -244,13 +365,15 @@ fn are_of_line(a: Mark, b: Mark) -> bool
 
 impl Model for Corner {
     ghost use Rattle.corner.specs.Views.{CornerView};
+    ghost use Rattle.corner_table.specs.Tables.{lists_of};
     ghost use Rattle.corner_table.specs.Invariants.{IsConsistent, view_of};
+    ghost use Rattle.corner.specs.Safe.{AreSafe};
 
     ghost Value = { CornerView };
 
     ghost view = { λ c. view_of c.table c.listed };
 
-    ghost invariant = { λ c. IsConsistent c.table c.listed };
+    ghost invariant = { λ c. IsConsistent c.table c.listed × AreSafe (lists_of c.table) c.safe };
 }
 
 impl Corner {
@@ -266,7 +389,12 @@ impl Corner {
     {
         let table = new_table(alloc)?;
         let listed = Listed::new(alloc);
-        Ok(Corner { table, listed })
+        let safe = no_safe(alloc);
+        Ok(Corner {
+            table,
+            listed,
+            safe,
+        })
     }
 
     /// Shows what each corner keeps.
@@ -314,6 +442,15 @@ impl Corner {
         ensures { HasValueAt self.now.problem self.now.marks (corners.place mark) result }
     {
         mark_value(&self.table, mark)
+    }
+
+    /// The inside mark of a row or stay, if its value is negative.
+    pub fn low_mark(&self, row: RowName) -> Option<Mark>
+        requires { IsNamed self.now.problem row }
+        ensures some { IfSome result (IsLowMark self.now.problem self.now.marks row) }
+        ensures none { IfNone result (AreNotLow self.now.problem self.now.marks row) }
+    {
+        low_mark(&self.table, row)
     }
 
     /// The value of an attribute.
@@ -368,6 +505,9 @@ impl Corner {
         requires level { IsLevelOf self.now.problem level }
         ensures { result ≡ true → AreGrowersDear self.now.problem self.now.marks mark level }
     {
+        if is_required(level) && is_safe(&self.table, &self.safe, mark) {
+            return true;
+        }
         are_growers_dear(&self.table, mark, level)
     }
 
@@ -414,6 +554,14 @@ impl Corner {
         ensures none { IfNone result (HasNoFront self.now.problem self.now.marks mark) }
     {
         front_of(&self.table, mark)
+    }
+
+    /// The fronts of both marks of a line.
+    pub fn fronts(&self, row: RowName) -> Fronts
+        requires { IsNamed self.now.problem row }
+        ensures { AreFrontsOf self.now.problem self.now.marks row result }
+    {
+        fronts_of(&self.table, row)
     }
 
     /// The multiplier of a row or stay at a level.
@@ -514,6 +662,7 @@ impl Corner {
             (exchanged (record { enter = enter; leave = leave }) self.old.marks)) }
         ensures same { IfErr result (IsAsBefore self.old self.new) }
     {
+        clear_safe(&mut self.safe);
         let line = line_slot(&self.table, enter.row);
         if are_of_line(enter, leave) {
             return turn_line(&mut self.table, &mut self.listed, line, enter.side);
@@ -524,6 +673,45 @@ impl Corner {
             leave: line_slot(&self.table, leave.row),
         };
         exchange_lines(&mut self.table, &mut self.listed, pair)
+    }
+
+    /// Exchanges an outside mark for an inside one that moves with it, as `swap` does, where no column is
+    /// negative after it. No line more is listed.
+    ///
+    /// `Refused` names what does not fit at the new corner, and the corner is as before. After want of memory
+    /// it is that of the newest mark.
+    pub fn swap_settled(&mut self, enter: Mark, leave: Mark) -> Result<(), TableStop>
+        requires marked { 0 < length self.old.before }
+        requires enter { IsOutside self.old.problem self.old.marks enter }
+        requires leave { IsIn (corners.place leave) self.old.marks }
+        requires moves { MovesWith self.old.problem self.old.marks enter (MarkOf leave) }
+        requires settled { AreCandidates self.old.problem
+            (exchanged (record { enter = enter; leave = leave }) self.old.marks) [] }
+        ensures problem { IfOk result (λ _. self.new.problem ≡ self.old.problem) }
+        ensures marks { IfOk result (λ _. SameMarks self.new.marks
+            (exchanged (record { enter = enter; leave = leave }) self.old.marks)) }
+        ensures before { self.new.before ≡ self.old.before }
+        ensures stop { IfErr result (IsUnfitStop self.old.problem
+            (exchanged (record { enter = enter; leave = leave }) self.old.marks)) }
+        ensures same { IfErr result (IsAsBefore self.old self.new) }
+    {
+        let line = line_slot(&self.table, enter.row);
+        if are_of_line(enter, leave) {
+            return turn_safe(
+                &mut self.table,
+                &mut self.listed,
+                &mut self.safe,
+                line,
+                enter.side,
+            );
+        }
+        clear_safe(&mut self.safe);
+        let pair = Pair {
+            enter: line,
+            side: enter.side,
+            leave: line_slot(&self.table, leave.row),
+        };
+        exchange_settled(&mut self.table, &mut self.listed, pair)
     }
 
     /// Adds an attribute that stands at this value, with its stay as the last one. After want of memory the
@@ -539,6 +727,7 @@ impl Corner {
         ensures candidates { IfOk result (λ _. self.new.candidates ≡ self.old.candidates) }
         ensures same { OnErr result (IsRewound self.old self.new) }
     {
+        clear_safe(&mut self.safe);
         match push_attr(&mut self.table, attr, target) {
             Ok(()) => Ok(()),
             Err(OutOfMemory) => {
@@ -566,6 +755,7 @@ impl Corner {
         ensures stop { IfErr result (IsAddStop self.old rows.now) }
         ensures same { OnErr result (IsRewound self.old self.new) }
     {
+        clear_safe(&mut self.safe);
         match join_all(&mut self.table, &mut self.listed, rows) {
             Ok(()) => Ok(()),
             Err(stop) => {
@@ -594,6 +784,7 @@ impl Corner {
         match shift_row(&mut self.table, id, to) {
             Ok(()) => Ok(()),
             Err(stop) => {
+                clear_safe(&mut self.safe);
                 take_back(&mut self.table, &mut self.listed);
                 Err(stop)
             }
@@ -614,6 +805,7 @@ impl Corner {
             (without_marks (id ∷ []) self.old.marks)) }
         ensures same { IfErr result (IsAsBefore self.old self.new) }
     {
+        clear_safe(&mut self.safe);
         let leaver = leaver_of(&self.table, id);
         take_row(&mut self.table, &mut self.listed, leaver)
     }
@@ -628,6 +820,7 @@ impl Corner {
         ensures before { self.new.before ≡ self.old.before }
         ensures same { OnErr result (IsRewound self.old self.new) }
     {
+        clear_safe(&mut self.safe);
         match take_attr(&mut self.table, &mut self.listed, attr) {
             Ok(()) => Ok(()),
             Err(OutOfMemory) => {
@@ -650,6 +843,7 @@ impl Corner {
         match stand_stays(&mut self.table) {
             Ok(()) => Ok(()),
             Err(OutOfMemory) => {
+                clear_safe(&mut self.safe);
                 take_back(&mut self.table, &mut self.listed);
                 Err(OutOfMemory)
             }
@@ -668,6 +862,7 @@ impl Corner {
         ensures before { self.new.before ≡ self.old.before }
         ensures same { OnErr result (IsRewound self.old self.new) }
     {
+        clear_safe(&mut self.safe);
         match put_front(&mut self.table, &mut self.listed, attrs) {
             Ok(()) => Ok(()),
             Err(OutOfMemory) => {
@@ -694,6 +889,7 @@ impl Corner {
         ensures scene { self.old.before ≡ scene_of self.new ∷ self.new.before }
         ensures candidates { self.new.candidates ≡ [] }
     {
+        clear_safe(&mut self.safe);
         self.listed.clear();
         back(&mut self.table);
     }
@@ -703,6 +899,7 @@ impl Corner {
         requires { 0 < length self.old.before }
         ensures { IsRewound self.old self.new }
     {
+        clear_safe(&mut self.safe);
         take_back(&mut self.table, &mut self.listed);
     }
 

@@ -3,11 +3,12 @@
 //! A [`Corner`] is a problem with the marks inside at a corner: as many marks as rows, which the outside
 //! ones fix. It answers what stands there: the values of attributes and marks, the writing of each by the
 //! outside marks ([`Corner::movers`], [`Corner::coefficient`], [`Corner::denominator`]), and what each
-//! level costs and what it would cost to let a mark grow ([`Corner::front`], [`Corner::reduced`],
-//! [`Corner::multiplier`]). [`Corner::swap`] goes to a neighbouring corner, [`Corner::add_attr`] and
-//! [`Corner::add_rows`] to that of a larger problem, [`Corner::drop_row`] and [`Corner::drop_attr`] to that
-//! of a smaller one; [`Corner::stand`] makes the values the targets of the stays, and [`Corner::put_first`]
-//! puts some of these before all others.
+//! level costs and what it would cost to let a mark grow ([`Corner::front`], [`Corner::fronts`],
+//! [`Corner::reduced`], [`Corner::multiplier`]). [`Corner::swap`] goes to a neighbouring corner,
+//! [`Corner::swap_settled`] to one without negative columns, for which no line is listed;
+//! [`Corner::add_attr`] and [`Corner::add_rows`] go to that of a larger problem, [`Corner::drop_row`] and
+//! [`Corner::drop_attr`] to that of a smaller one; [`Corner::stand`] makes the values the targets of the
+//! stays, and [`Corner::put_first`] puts some of these before all others.
 //!
 //! [`Corner::mark`] keeps the corner of now as an earlier one, and [`Corner::back`] returns to the newest
 //! of these. Neither wants memory. Where memory is wanting, or new rows do not fit, the corner is that of
@@ -46,15 +47,18 @@
 //! The lists are a `Table` of `corner_table`, of which `corner_writings` reads. `corner_exchange` goes to the
 //! next corner, `corner_joins` to that of a larger problem. To read: `shifting` goes to that with another
 //! constant, `standing` to that with other targets, `fronting` to that with another order of stays,
-//! `leaving`, with `leaving::freeing` and `leaving::dropping`, to that of a smaller problem; and `corner` is
+//! `leaving`, with `leaving::freeing` and `leaving::dropping`, to that of a smaller problem; `safe` lists the
+//! lines that are known to be safe to turn; `lows` finds a line's mark with a negative value; and `corner` is
 //! what callers use.
 #![tactic(auto)]
 
 mod corner;
 mod fronting;
 mod leaving;
+mod lows;
+mod safe;
 mod shifting;
 mod standing;
 
 pub use corner::Corner;
-pub use corner_writings::Front;
+pub use corner_writings::{Front, Fronts};

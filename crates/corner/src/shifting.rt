@@ -7,6 +7,7 @@ ghost use Rattle.frac_core.specs.Fraction.{Fraction, IsFitting, IsRatio, sum_den
 ghost use Rattle.problem_core.specs.Layout as layout;
 ghost use Rattle.problem_core.specs.Kept.{IsRow};
 ghost use Rattle.problem_core.specs.declared.parts.RowName as row_type;
+ghost use Rattle.problem_core.specs.declared.stops.What as what_type;
 ghost use Rattle.corner_lines.specs.Shifts.{has_constant};
 ghost use Rattle.corner_table.specs.declared.table.Owner.TheVariants.{Line as LineSlot};
 ghost use Rattle.corner_table.specs.declared.table.TheConstants.{LEVELS};
@@ -14,21 +15,20 @@ ghost use Rattle.corner_table.specs.Histories.{AreAlike, lists_before};
 ghost use Rattle.corner_table.specs.Kept.{AreSlots, IsKept, IsSlot};
 ghost use Rattle.corner_table.specs.Reads.LevelNumbers.{IsSlotOfLine};
 ghost use Rattle.corner.specs.Shifts.Shifting as shifting;
-ghost use Rattle.corner.specs.Shifts.Shifting.{CanGrow, HaveGrown, IsGrowStop, IsGrown};
+ghost use Rattle.corner.specs.Shifts.Shifting.{CanGrow, HaveGrown, IsGrowStop, IsGrown, IsGrowth, sign_at};
 ghost use Rattle.corner.specs.Shifts.Shifting.{IsGrownValueStop, IsNear};
 ghost use Rattle.corner.specs.Shifts.Shifting.{IsShifted, IsShiftedStop, IsThere, mark_growth};
 ghost use Rattle.corner.specs.Shifts.Shifting.{outside_growth};
 ghost use Rattle.corner.specs.Shifts.Shifting.{with_constant_at};
 ghost use Rattle.corner_table.specs.Tables as tables;
-ghost use Rattle.corner_table.specs.Tables.{lists_of, problem_of};
+ghost use Rattle.corner_table.specs.Tables.{IsSign, lists_of, problem_of};
 
-use corner_exchange::{named_sum, opposite, put_value, with_signs};
+use corner_exchange::{opposite, put_value, with_signs};
 use corner_table::{
-    Table, cost_share, is_level, level_of, line_slot, own_of, own_of_level, priority_at, side_at,
-    side_in, sign, slot_at, unit_of, value_at, what_at,
+    Owner, Table, cost_share, is_level, level_of, line_slot, own_of, own_of_level, priority_at,
+    side_at, side_in, sign, slot_at, sum, unit_of, value_at, what_at,
 };
-use corner_writings::what_sign;
-use frac_core::{Frac, OutOfMemory, Stop};
+use frac_core::{Frac, OutOfMemory, Stop, Unfit};
 use problem_core::{Quantity, Row, RowName, Side, TableStop, What};
 use std::alloc::Global;
 
@@ -80,21 +80,52 @@ struct Growth {
     d: i64,
 }
 
+// What the slot is of: a level, an attribute, or an inside line's mark.
+fn what_there(table: &Table, w: u32) -> What
+    requires slots { AreSlots (lists_of table.now) }
+    requires within { w < length table.now.slots.items }
+    requires there { (what : what_type.What) × IsThere (lists_of table.now) w what }
+    ensures { IsThere (lists_of table.now) w result }
+{
+    if is_level(w) {
+        What::Level(level_of(table, w))
+    } else {
+        what_at(table, w, side_in(table, w))
+    }
+}
+
+// A slot's value, grown by so many times the difference.
+fn grown(table: &Table, w: u32, by: Growth, more: Frac) -> Result<Frac, TableStop>
+    requires slots { AreSlots (lists_of table.now) }
+    requires within { w < length table.now.slots.items }
+    requires n { IsFitting by.n }
+    requires d { IsFitting by.d }
+    requires above { pos 0 <ℤ by.d }
+    requires there { (what : what_type.What) × IsThere (lists_of table.now) w what }
+    ensures kept { IfOk result fraction.IsKept }
+    ensures value { IfOk result (IsGrowth (tables.standing_at (lists_of table.now) w).value by more) }
+    ensures stop { IfErr result (IsGrowStop (lists_of table.now) w by more) }
+{
+    match sum(value_at(table, w), by.n, by.d, more) {
+        Ok(value) => Ok(value),
+        Err(Unfit) => Err(Stop::Refused(Quantity::Plain(what_there(table, w)))),
+    }
+}
+
 // Lets a value grow by so many times the difference.
-fn grow(table: &mut Table, w: u32, by: Growth, more: Frac, what: What) -> Result<(), TableStop>
+fn grow(table: &mut Table, w: u32, by: Growth, more: Frac) -> Result<(), TableStop>
     requires slots { AreSlots (lists_of table.old) }
     requires within { w < length table.old.slots.items }
     requires n { IsFitting by.n }
     requires d { IsFitting by.d }
     requires above { pos 0 <ℤ by.d }
-    requires what { IsThere (lists_of table.old) w what }
+    requires there { (what : what_type.What) × IsThere (lists_of table.old) w what }
     ensures ok { OnOk result (IsGrown (lists_of table.old) w by more (lists_of table.new)) }
     ensures stop { IfErr result (IsGrowStop (lists_of table.old) w by more) }
     ensures before { lists_before table.new ≡ lists_before table.old }
     ensures alike { AreAlike table.old → AreAlike table.new }
 {
-    let stop = Stop::Refused(Quantity::Plain(what));
-    let value = named_sum(value_at(table, w), by.n, by.d, more, stop)?;
+    let value = grown(table, w, by, more)?;
     put_value(table, w, value)?;
     Ok(())
 }
@@ -132,9 +163,8 @@ fn grow_home(table: &mut Table, line: u32, side: Side, more: Frac) -> Result<(),
     ensures alike { AreAlike table.old → AreAlike table.new }
 {
     let home = slot_at(table, line).home;
-    let what = What::Level(level_of(table, home));
     let by = home_growth(table, line, side);
-    grow(table, home, by, more, what)
+    grow(table, home, by, more)
 }
 
 // Lets the value of a line's inside mark grow.
@@ -150,12 +180,11 @@ fn grow_mark(table: &mut Table, line: u32, side: Side, more: Frac) -> Result<(),
     ensures before { lists_before table.new ≡ lists_before table.old }
     ensures alike { AreAlike table.old → AreAlike table.new }
 {
-    let what = what_at(table, line, side);
     let by = Growth {
         n: opposite(sign(side)),
         d: 1,
     };
-    grow(table, line, by, more, what)
+    grow(table, line, by, more)
 }
 
 // Lets the value of a line's inside mark grow, and its level's cost.
@@ -188,12 +217,27 @@ fn grow_level(table: &mut Table, l: u32, line: u32, more: Frac) -> Result<(), Ta
     ensures before { lists_before table.new ≡ lists_before table.old }
     ensures alike { AreAlike table.old → AreAlike table.new }
 {
-    let what = What::Level(level_of(table, l));
     let by = Growth {
         n: opposite(table.matrix.entry(l, line)),
         d: own_of_level(table, l) * priority_at(table, l).unit,
     };
-    grow(table, l, by, more, what)
+    grow(table, l, by, more)
+}
+
+// The sign of an inside line's mark, 1 of all else.
+fn sign_there(table: &Table, w: u32) -> i64
+    requires slots { AreSlots (lists_of table.now) }
+    requires within { w < length table.now.slots.items }
+    ensures value { result ≡ sign_at (lists_of table.now) w }
+    ensures sign { IsSign result }
+{
+    match slot_at(table, w).owner {
+        Owner::Level | Owner::Attr(_) => 1,
+        Owner::Line(_) => match side_at(table, w) {
+            Some(side) => sign(side),
+            None => 1,
+        },
+    }
 }
 
 // Lets the value of an attribute or a mark grow, in whose row the line stands.
@@ -209,12 +253,11 @@ fn grow_value(table: &mut Table, w: u32, line: u32, more: Frac) -> Result<(), Ta
     ensures before { lists_before table.new ≡ lists_before table.old }
     ensures alike { AreAlike table.old → AreAlike table.new }
 {
-    let what = what_at(table, w, side_in(table, w));
     let by = Growth {
-        n: with_signs(table.matrix.entry(w, line), -1, what_sign(what)),
+        n: with_signs(table.matrix.entry(w, line), -1, sign_there(table, w)),
         d: own_of(table, w),
     };
-    grow(table, w, by, more, what)
+    grow(table, w, by, more)
 }
 
 // Lets a slot's value grow, in whose row the line stands.

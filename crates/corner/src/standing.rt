@@ -1,7 +1,7 @@
 // The stays' targets where they are moved to the values of now.
-ghost use Rattle.std.specs.Prelude.{◌≡◌, ◌<◌, length, OnOk};
+ghost use Rattle.std.specs.Prelude.{◌≡◌, ◌<◌, ◌≤◌, ℕ, false, length, OnOk};
 ghost use Rattle.problem_core.specs.Layout.{HasStay};
-ghost use Rattle.corner.specs.Shifts.Stood.{AreFirstStood, IsStoodAt, with_present};
+ghost use Rattle.corner.specs.Shifts.Stood.{AreFirstStood, IsAtRest, IsStoodAt, with_present};
 ghost use Rattle.corner_table.specs.Histories.{HasSameHistory};
 ghost use Rattle.corner_table.specs.Kept.{AreSlots, IsKept};
 ghost use Rattle.corner_table.specs.Tables.{lists_of};
@@ -26,7 +26,7 @@ fn move_stay(table: &mut Table, i: usize, attr: u32) -> Result<(), OutOfMemory>
     table.standings.put(line as usize, Standing { side, value })
 }
 
-// Gives a stay that has moved its attribute's value as target.
+// Gives the stay in a place its attribute's value as target.
 fn stand_stay(table: &mut Table, i: usize) -> Result<(), OutOfMemory>
     requires slots { AreSlots (lists_of table.old) }
     requires within { i < length table.old.stays.items }
@@ -34,11 +34,34 @@ fn stand_stay(table: &mut Table, i: usize) -> Result<(), OutOfMemory>
     ensures lists { OnOk result (IsStoodAt i (lists_of table.old) (lists_of table.new)) }
 {
     let attr = table.stays.get(i).attr;
-    let line = line_slot(table, RowName::Stay(attr));
-    if value_at(table, line).num() == 0 {
-        return Ok(());
-    }
     move_stay(table, i, attr)
+}
+
+// Whether the stay in a place has moved.
+fn has_moved(table: &Table, i: usize) -> bool
+    requires slots { AreSlots (lists_of table.now) }
+    requires within { i < length table.now.stays.items }
+    ensures { result ≡ false → IsAtRest (lists_of table.now) i }
+{
+    let attr = table.stays.get(i).attr;
+    let line = line_slot(table, RowName::Stay(attr));
+    value_at(table, line).num() != 0
+}
+
+// The place of the first stay from this one on that has moved, or how many stays there are.
+fn next_moved(table: &Table, from: usize) -> usize
+    requires slots { AreSlots (lists_of table.now) }
+    ensures rest { (i : ℕ) → from ≤ i → i < result → IsAtRest (lists_of table.now) i }
+    ensures within { from ≤ length table.now.stays.items → from ≤ result }
+    ensures most { result ≤ length table.now.stays.items }
+{
+    let count = table.stays.len();
+    for i in from..count {
+        if has_moved(table, i) {
+            return i;
+        }
+    }
+    count
 }
 
 /// Gives each stay that has moved its attribute's value as target.
@@ -49,8 +72,10 @@ pub(crate) fn stand_stays(table: &mut Table) -> Result<(), OutOfMemory>
         (lists_of table.new)) }
 {
     let count = table.stays.len();
-    for i in 0..count {
+    let mut i = next_moved(table, 0);
+    while i < count {
         stand_stay(table, i)?;
+        i = next_moved(table, i + 1);
     }
     Ok(())
 }

@@ -527,8 +527,9 @@ fn changes(table: &Table, pivot: &Pivot) -> Result<Vec<Change>, TableStop>
     ensures rest { IfOk result (λ out. IsRestUntouched (lists_of table.now) pivot.now out.items) }
     ensures stop { IfErr result (IsPivotStop (lists_of table.now) pivot.now) }
 {
-    let mut out = Vec::new(table.alloc);
-    for w in table.matrix.column(pivot.pair.enter) {
+    let column = table.matrix.column(pivot.pair.enter);
+    let mut out = Vec::with_capacity(table.alloc, column.len() + 2)?;
+    for w in column {
         push_change(table, pivot, *w, &mut out)?;
     }
     push_touched(table, pivot, &mut out)?;
@@ -711,6 +712,19 @@ fn put_lists(table: &mut Table, made: Exchange) -> Result<(), OutOfMemory>
     clear_slot(table, pair.leave)?;
     put_changes(table, changes)?;
     fill_slot(table, pair.side, entering)
+}
+
+/// Puts what an exchange makes of the lists, and lists no line.
+pub fn put_unlisted(table: &mut Table, made: Exchange) -> Result<(), OutOfMemory>
+    requires kept { IsKept (lists_of table.old) }
+    requires made { (s : Swap) × IsExchangeOf (lists_of table.old) made s }
+    ensures lists { OnOk result (lists_of table.new ≡ exchanged_lists (lists_of table.old) made) }
+    ensures kept { OnOk result (IsKept (lists_of table.new)) }
+    ensures marks { OnOk result (AreMarksAfter (lists_of table.old) made (lists_of table.new)) }
+    ensures before { lists_before table.new ≡ lists_before table.old }
+    ensures alike { AreAlike table.old → AreAlike table.new }
+{
+    put_lists(table, made)
 }
 
 /// Puts what an exchange makes of the lists.

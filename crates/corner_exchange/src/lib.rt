@@ -4,7 +4,8 @@
 //! change of a list: what it makes of each row and value that has the entering line in it, or the stop that
 //! names the first of these that doesn't fit. [`put_exchange`] puts it, and lists the lines that may have a
 //! negative column now. A line whose inside mark stands at 0 may also give the place inside to its other mark
-//! ([`turn_of`], [`put_turn`]).
+//! ([`turn_of`], [`put_turn`]). Where no column is negative afterwards, [`put_unlisted`] and
+//! [`turn_unlisted`] do the same and list no line.
 //!
 //! ```
 //! let made = exchange_of(&table, Pair { enter, leave, side })?;    // or a stop: no list has changed
@@ -24,8 +25,8 @@
 
 mod exchange;
 
-pub use exchange::turning::{negated, put_turn, turn_of};
+pub use exchange::turning::{negated, put_turn, turn_of, turn_unlisted};
 pub use exchange::{
     Change, Exchange, exchange_of, named_row, named_sum, opposite, put_change, put_exchange,
-    put_value, with_signs,
+    put_unlisted, put_value, with_signs,
 };

@@ -5,3 +5,4 @@ pub mod ReadFacts
 pub mod WritingFacts
 pub mod KeptFacts
 pub mod MarkingFacts
+pub mod MoveFacts

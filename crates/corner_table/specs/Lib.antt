@@ -6,3 +6,4 @@ pub mod Invariants
 pub mod Reads
 pub mod Joining
 pub mod Paths
+pub mod Moves

@@ -4,7 +4,8 @@
 //! and a column of one sparse matrix of whole numbers. [`new_table`] is that of no row and no stay. What a
 //! quantity is worth is the value in its slot ([`value_at`]); a line's slot says which of its marks is inside
 //! ([`side_at`]), and [`marks_with`] names all of these. Each list has as many earlier versions: [`mark`],
-//! [`back`], [`forget`] and [`rewind`] keep them alike.
+//! [`back`], [`forget`] and [`rewind`] keep them alike. [`moved_attrs`] lists the attributes whose values are others
+//! than at the newest mark.
 //!
 //! ```
 //! let mut table = new_table(alloc)?;            // the slots of the priority levels, and nothing else
@@ -24,17 +25,20 @@
 //! seen of a corner (`specs/Views.antt`) are here, since the lists are read by them.
 //!
 //! To read: `table` has the lists, each with its earlier versions; `slots` finds in them by name; `listing`
-//! lists lines; `marking` names the marks inside and lists the lines of a row; `sums` adds.
+//! lists lines; `marking` names the marks inside and lists the lines of a row; `moved` compares with
+//! the newest mark; `sums` adds.
 #![tactic(auto)]
 
 mod listing;
 mod marking;
+mod moved;
 mod slots;
 mod sums;
 mod table;
 
 pub use listing::Listed;
 pub use marking::{list_row, marks_with, path_stop};
+pub use moved::moved_attrs;
 pub use slots::{
     attr_slot, cost_share, costs, is_level, is_stay, level_of, level_slot, line_slot, name_at,
     other, own_of, own_of_level, priority_at, priority_level, put_number, share, side_at, side_in,

@@ -1,6 +1,6 @@
 // The lines that may have a negative column.
 ghost use Rattle.std.specs.Prelude.{◌≡◌, ◌<◌, ℕ, [], length, Contains, IfSome, IfNone, OnOk, slice_get};
-ghost use Rattle.std.specs.Prelude.{slice_index_or};
+ghost use Rattle.std.specs.Prelude.{slice_index_or, true};
 ghost use Rattle.corner_table.specs.Reads.Listing.{HasLeft, IsListed, IsWithout};
 
 use frac_core::OutOfMemory;
@@ -49,6 +49,13 @@ impl Listed {
         ensures { slice_get self.now i ≡ Some result }
     {
         self.lines[i]
+    }
+
+    /// Whether a line is listed.
+    pub fn has(&self, line: u32) -> bool
+        ensures { result ≡ true → Contains self.now line }
+    {
+        (line as usize) < self.flags.len() && self.flags[line as usize]
     }
 
     /// Lists a line.

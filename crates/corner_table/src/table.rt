@@ -25,6 +25,9 @@ pub const OWN_RANK: u64 = 1 << 32;
 /// The slot of a number that has none.
 pub(crate) const ABSENT: u32 = 0;
 
+// For so many slots there is memory from the start: those of the levels, and as many others.
+const FIRST_ROOM: usize = 2 * LEVELS as usize;
+
 // More slots than these are want of memory.
 const MOST_SLOTS: usize = 1 << 31;
 
@@ -37,9 +40,9 @@ pub enum Owner {
 }
 
 /// What an exchange does not change of a slot. The home is the slot of a line's level, a stay's own. The
-/// rank, which only levels have, says which of two is stronger: the one of the lower rank. That of a priority level
-/// is its number, and that of a stay's is its own, by its slot, until the stays come in another order. Only
-/// lines have the rest.
+/// rank, which only levels have, says which of two is stronger: the one of the lower rank. That of a priority
+/// level is its number, and that of a stay's is its own, by its slot, until the stays come in another order.
+/// Only lines have the rest.
 #[derive(Clone, Copy, Debug, PartialEq, Eq)]
 pub struct Slot {
     pub owner: Owner,
@@ -89,12 +92,12 @@ pub fn new_table(alloc: Global) -> Result<Table, OutOfMemory>
     let mut table = Table {
         rows: VersionList::new(alloc)?,
         stays: VersionList::new(alloc)?,
-        slots: VersionList::new(alloc)?,
-        standings: VersionList::new(alloc)?,
-        matrix: IndexedRows::new(alloc)?,
+        slots: VersionList::with_room(alloc, FIRST_ROOM)?,
+        standings: VersionList::with_room(alloc, FIRST_ROOM)?,
+        matrix: IndexedRows::with_room(alloc, FIRST_ROOM)?,
         attr_slots: VersionList::new(alloc)?,
         row_slots: VersionList::new(alloc)?,
-        priorities: VersionList::new(alloc)?,
+        priorities: VersionList::with_room(alloc, LEVELS as usize)?,
         alloc,
     };
     for level in 0..LEVELS {

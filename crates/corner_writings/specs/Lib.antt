@@ -1,4 +1,5 @@
 pub mod Fronts
+pub mod Walks
 pub mod Entries
 pub mod Lows
 pub mod Growing

@@ -1,12 +1,14 @@
 // What is read of the writings of the levels' costs.
 pub(crate) mod fitting;
+pub(crate) mod fronts;
 pub(crate) mod growing;
 
 ghost use Rattle.std.specs.Prelude.{◌≡◌, ◌⊎◌, ◌*ℤ◌, ◌<◌, ◌≤◌, length, All, AllPairs, Contains, IfSome};
 ghost use Rattle.std.specs.Prelude.{IfNone, OnOk};
-ghost use Rattle.std.specs.Prelude.{ℕ, [], None, Some, true, false, ◌↔◌};
+ghost use Rattle.std.specs.Prelude.{ℕ, [], None, Some, pos, true, false, ◌↔◌};
 ghost use Rattle.frac_core.specs.Fraction.{IsFitting};
 ghost use Rattle.problem_core.specs.declared.parts.Level as level_type;
+ghost use Rattle.problem_core.specs.declared.parts.Side as side_type;
 ghost use Rattle.problem_core.specs.Levels.{IsCostAt, IsLevelAt};
 ghost use Rattle.corner_lines.specs.LineEquations.{sign_of};
 ghost use Rattle.corner_writings.specs.Fitting as fitting;
@@ -14,17 +16,21 @@ ghost use Rattle.corner_table.specs.declared.table.TheConstants.{LEVELS, OWN_RAN
 ghost use Rattle.corner_table.specs.Reads.LevelNumbers as numbers;
 ghost use Rattle.corner_table.specs.Reads.LevelNumbers.{IsCost, IsLevelSlot, IsLinesSlot, HasReducedAt};
 ghost use Rattle.corner_table.specs.Reads.LevelNumbers.{IsFirstInColumn, IsFirstSlot, IsLevelThere};
-ghost use Rattle.corner_table.specs.Reads.LevelNumbers.{IsNoneInColumn};
+ghost use Rattle.corner_table.specs.Reads.LevelNumbers.{IsCounted, IsNoneInColumn};
 ghost use Rattle.corner_table.specs.Reads.LevelNumbers.{IsSlotOfLevel, IsSlotOfLine, own_at, unit_at};
+ghost use Rattle.corner_table.specs.Kept as tables_kept;
 ghost use Rattle.corner_table.specs.Kept.{AreSlots, HasCost, IsKept};
 ghost use Rattle.corner_table.specs.Tables as tables;
 ghost use Rattle.corner_table.specs.Tables.{lists_of, marks_at, problem_of};
 ghost use Rattle.corner_table.specs.Views.{IsInUse, IsLevelOf, IsMarkOf, IsStronger};
 ghost use Rattle.corner_writings.specs.Fronts.{HasNoFront, IsFrontOf};
+ghost use Rattle.corner_writings.specs.Walks as walks;
+ghost use Rattle.corner_writings.specs.Walks.{IsLevelRead};
 
 use corner_table::{
-    LEVELS, OWN_RANK, Slot, Table, cost_share, is_level, is_stay, level_of, level_slot, line_slot,
-    own_of, own_of_level, priority_at, priority_level, side_at, slot_at, unit_of, value_at,
+    LEVELS, OWN_RANK, Slot, Table, cost_share, costs, is_level, is_stay, level_of, level_slot,
+    line_slot, own_of, own_of_level, priority_at, priority_level, share, side_at, slot_at, unit_of,
+    value_at,
 };
 use frac_core::{Frac, OutOfMemory};
 use problem_core::{Level, Mark, Side};
@@ -55,6 +61,20 @@ pub fn cost_at(table: &Table, l: u32) -> Frac
     value_at(table, l)
 }
 
+// The number of a priority level's row, 1 where it has none. It stands first in the row, whose other columns
+// are slots of lines.
+fn priority_own(table: &Table, l: u32) -> i64
+    requires kept { IsKept (lists_of table.now) }
+    requires level { l < LEVELS }
+    ensures value { result ≡ tables_kept.level_own (lists_of table.now) l }
+    ensures fits { IsFitting result }
+{
+    match table.matrix.row(l).entries().first() {
+        Some(e) if e.col.0 == u64::from(l) => e.by,
+        _ => own_of_level(table, l),
+    }
+}
+
 /// The number of the level's row, 1 where it has none.
 pub(crate) fn level_own(table: &Table, l: u32) -> i64
     requires kept { IsKept (lists_of table.now) }
@@ -63,7 +83,7 @@ pub(crate) fn level_own(table: &Table, l: u32) -> i64
     ensures fits { IsFitting result }
 {
     if is_level(l) {
-        own_of_level(table, l)
+        priority_own(table, l)
     } else if side_at(table, l).is_some() {
         own_of(table, l)
     } else {
@@ -72,7 +92,7 @@ pub(crate) fn level_own(table: &Table, l: u32) -> i64
 }
 
 // The number with the sign of a mark of this side.
-fn signed(side: Side, number: i64) -> i64
+pub(crate) fn signed(side: Side, number: i64) -> i64
     requires { IsCost number }
     ensures value { result ≡ sign_of side *ℤ number }
     ensures small { IsCost result }
@@ -144,6 +164,71 @@ pub(crate) fn reduced_of(table: &Table, l: u32, line: u32, side: Side) -> i64
     }
 }
 
+/// A level by its slot, with the number of its row and the unit of its cost.
+#[derive(Clone, Copy)]
+pub(crate) struct LevelRead {
+    pub l: u32,
+    pub own: i64,
+    pub unit: i64,
+}
+
+/// The numbers of the level at a slot.
+pub(crate) fn level_read(table: &Table, l: u32) -> LevelRead
+    requires kept { IsKept (lists_of table.now) }
+    requires level { IsLevelSlot (lists_of table.now) l }
+    ensures slot { result.l ≡ l }
+    ensures read { IsLevelRead (lists_of table.now) result }
+{
+    LevelRead {
+        l,
+        own: level_own(table, l),
+        unit: unit_of(table, slot_at(table, l)),
+    }
+}
+
+// What a mark of this side costs by itself, by its level's own number and unit.
+fn cost_by(slot: Slot, side: Side, own: i64, unit: i64) -> i64
+    requires counted { IsCounted slot unit }
+    requires small { IsCost (walks.cost_by slot side own unit) }
+    ensures value { result ≡ walks.cost_by slot side own unit }
+    ensures small { IsCost result }
+{
+    if costs(slot.rel, side) {
+        own * share(slot, unit)
+    } else {
+        0
+    }
+}
+
+/// The reduced cost of the mark of a line's slot at a level, by the level's numbers.
+pub(crate) fn reduced_by(table: &Table, read: LevelRead, line: u32, side: Side) -> i64
+    requires kept { IsKept (lists_of table.now) }
+    requires read { IsLevelRead (lists_of table.now) read }
+    requires line { IsSlotOfLine (lists_of table.now) line }
+    ensures { result ≡ numbers.reduced_at (lists_of table.now) read.l line side }
+{
+    let slot = slot_at(table, line);
+    let rest = signed(side, times_at(table, read.l, line));
+    if slot.home == read.l {
+        cost_by(slot, side, read.own, read.unit) + rest
+    } else {
+        rest
+    }
+}
+
+// Whether the line is inside and the level another one than its own, where its marks have no reduced cost.
+fn costs_nothing(table: &Table, l: u32, line: u32) -> bool
+    requires slots { AreSlots (lists_of table.now) }
+    requires within { line < length table.now.slots.items }
+    ensures { result ≡ true → (side : side_type.Side)
+        → numbers.reduced_at (lists_of table.now) l line side ≡ pos 0 }
+{
+    match side_at(table, line) {
+        Some(_) => slot_at(table, line).home != l,
+        None => false,
+    }
+}
+
 /// The reduced cost of a mark at the level at a slot.
 pub fn reduced_at(table: &Table, l: u32, mark: Mark) -> i64
     requires kept { IsKept (lists_of table.now) }
@@ -152,11 +237,15 @@ pub fn reduced_at(table: &Table, l: u32, mark: Mark) -> i64
     ensures { result ≡ numbers.reduced_at (lists_of table.now) l
         (tables.line_slot (lists_of table.now) mark.row) mark.side }
 {
-    reduced_of(table, l, line_slot(table, mark.row), mark.side)
+    let line = line_slot(table, mark.row);
+    if costs_nothing(table, l, line) {
+        return 0;
+    }
+    reduced_of(table, l, line, mark.side)
 }
 
 // Whether the slot's row is the cost of a level.
-fn has_cost(table: &Table, w: u32) -> bool
+pub(crate) fn has_cost(table: &Table, w: u32) -> bool
     requires { w < length table.now.slots.items }
     ensures { (result ≡ true) ↔ HasCost (lists_of table.now) w }
 {
@@ -164,7 +253,7 @@ fn has_cost(table: &Table, w: u32) -> bool
 }
 
 // The front with this reduced cost at the level of a slot.
-fn front_at(table: &Table, l: u32, reduced: i64) -> Front
+pub(crate) fn front_at(table: &Table, l: u32, reduced: i64) -> Front
     requires kept { IsKept (lists_of table.now) }
     requires within { l < length table.now.slots.items }
     requires level { HasCost (lists_of table.now) l }
@@ -222,7 +311,7 @@ fn is_before(table: &Table, l: u32, found: Option<u32>) -> bool
 
 // Whether each level of a later slot is weaker: the slot is a priority level's, or a stay's with its own
 // rank.
-fn ends_column(table: &Table, l: u32) -> bool
+pub(crate) fn ends_column(table: &Table, l: u32) -> bool
     requires { l < length table.now.slots.items }
     ensures yes { result ≡ true
         → (l < LEVELS) ⊎ (OWN_RANK ≤ (tables.slot_at (lists_of table.now) l).rank) }

@@ -7,7 +7,8 @@
 //! isn't 0, the strongest level first, is its [`Front`]:
 //!
 //! ```
-//! front_of(&table, mark)                        // Some(Front { level, reduced }), or None where all are 0
+//! front_of(&table, mark)                      // Some(Front { level, reduced }), or None where all are 0
+//! fronts_of(&table, row)                      // those of both marks of a line, with one look at its column
 //! ```
 //!
 //! A [`Draft`] is a level of which so many rows have joined, at the marks after a [`Pair`] is exchanged;
@@ -20,7 +21,8 @@
 //! cost at one level, [`times_at`] a simplex multiplier.
 //!
 //! To read: `writings` (attributes and marks), `lows` (lines with negative values), `levels` (costs and
-//! fronts), `levels::growing` (what it costs where an inside mark grows) and `levels::fitting` (what fits).
+//! fronts), `levels::fronts` (those of both marks of a line), `levels::growing` (what it costs where an
+//! inside mark grows) and `levels::fitting` (what fits).
 #![tactic(auto)]
 
 mod levels;
@@ -30,7 +32,8 @@ mod writings;
 pub use levels::fitting::{
     Draft, SMALL_SCALE, are_small, does_level_fit, does_line_fit, is_fitting, level_at, scale_of,
 };
-pub use levels::growing::are_growers_dear;
+pub use levels::fronts::{Fronts, fronts_of};
+pub use levels::growing::{are_growers_dear, is_row_dear};
 pub use levels::{
     Front, Pair, cost_at, front_of, is_stronger, reduced_at, scale_at, times_at, used,
 };

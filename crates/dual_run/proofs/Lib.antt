@@ -1,5 +1,6 @@
 pub mod Lesser
 pub mod Lows
+pub mod LowMarks
 pub mod Orders
 pub mod FrontOrders
 pub mod Names

@@ -91,18 +91,6 @@ same_or_other Under Over = inr refl
 same_or_other Over Under = inr refl
 same_or_other Over Over = inl refl
 
--- neither the mark nor the other one of its line has a negative value
-pub none_low : (p : Problem) (at : List Mark) (name : RowName) (m : Mark) → m.row ≡ name → (HasNegativeValue p at m → ⊥) → (HasNegativeValue p at (other_mark m) → ⊥) → HasNoLow p at name
-none_low p at name m e a b side h =
-    let here : HasNegativeValue p at (record { row = m.row; side = side }) = subst (λ (n : RowName). HasNegativeValue p at (record { row = n; side = side })) (sym e) h in
-    elim (same_or_other m.side side) [
-      | inl s ↦ a (subst (λ (d : Side). HasNegativeValue p at (record { row = m.row; side = d })) s here)
-      | inr o ↦ b (subst (λ (d : Side). HasNegativeValue p at (record { row = m.row; side = d })) o here)
-    ]
-
-pub named_at : (p : Problem) (name : RowName) (m : Mark) → m.row ≡ name → IsNamed p name → IsMarkOf p m
-named_at p name m e named = named_mark p m.row m.side (subst (IsNamed p) (sym e) named)
-
 pub outside_not_low : (p : Problem) (at : List Mark) (m : Mark) → IsMarkOf p m → (IsIn (place m) at → ⊥) → HasNegativeValue p at m → ⊥
 outside_not_low p at m mark out (x, stands, low) = out (inside-low p at m x mark stands low)
 

@@ -1,12 +1,11 @@
 // The inside mark that leaves, of the lines whose values may be negative.
-ghost use Rattle.std.specs.Prelude.{◌≡◌, IfSome, IfNone, OnOk, true, false};
-ghost use Rattle.problem_core.specs.Corners.{HasNegativeValue, NoNegativeValue};
+ghost use Rattle.std.specs.Prelude.{◌≡◌, IfSome, IfNone, OnOk};
+ghost use Rattle.problem_core.specs.Corners.{NoNegativeValue};
 ghost use Rattle.corner_laws.specs.Runs.{other_mark};
-ghost use Rattle.corner.specs.Views.{IsMarkOf, IsNamed};
+ghost use Rattle.corner.specs.Views.{IsNamed};
 ghost use Rattle.dual_run.specs.Leaving.{AreLowLines, HasNoLow, IsLow, ListsSwapped};
 
 use corner::Corner;
-use corner_ends::is_below;
 use frac_core::OutOfMemory;
 use problem_core::{Mark, RowName, Side};
 
@@ -24,34 +23,6 @@ pub(crate) fn other(mark: Mark) -> Mark
     }
 }
 
-// Whether the mark's value is negative.
-fn is_low(c: &Corner, mark: Mark) -> bool
-    requires { IsMarkOf c.now.problem mark }
-    ensures yes { result ≡ true → IsLow c.now.problem c.now.marks mark }
-    ensures no { result ≡ false → HasNegativeValue c.now.problem c.now.marks mark → ⊥ }
-{
-    c.show_corner(); // for the proof: what a corner keeps
-    is_below(c.value(mark).num())
-}
-
-// The mark of the line that is inside, or its over mark: the other one has no negative value.
-fn standing(c: &Corner, row: RowName) -> Mark
-    requires { IsNamed c.now.problem row }
-    ensures row { result.row ≡ row }
-    ensures other { HasNegativeValue c.now.problem c.now.marks (other_mark result) → ⊥ }
-{
-    c.show_corner(); // for the proof: what a corner keeps
-    let under = Mark {
-        row,
-        side: Side::Under,
-    };
-    if c.is_inside(under) {
-        under
-    } else {
-        other(under)
-    }
-}
-
 /// The mark of the line whose value is negative.
 pub fn low_of(c: &Corner, row: RowName) -> Option<Mark>
     requires { IsNamed c.now.problem row }
@@ -59,8 +30,8 @@ pub fn low_of(c: &Corner, row: RowName) -> Option<Mark>
     ensures row { IfSome result (λ mark. mark.row ≡ row) }
     ensures none { IfNone result (HasNoLow c.now.problem c.now.marks row) }
 {
-    let mark = standing(c, row);
-    if is_low(c, mark) { Some(mark) } else { None }
+    c.show_corner(); // for the proof: what a corner keeps
+    c.low_mark(row)
 }
 
 /// A mark with a negative value. Lines without one are taken off the list, whose last one is looked at first.

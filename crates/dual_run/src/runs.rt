@@ -37,7 +37,7 @@ pub fn exchange(
 {
     c.show_corner(); // for the proof: what a corner keeps
     let enter = entering(c, leave)?;
-    match c.swap(enter, leave) {
+    match c.swap_settled(enter, leave) {
         Ok(()) => {
             c.show_corner(); // for the proof: what a corner keeps
             list_swapped(c, low, enter.row, leave.row)?;

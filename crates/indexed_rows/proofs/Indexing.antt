@@ -1,7 +1,7 @@
 -- The index of rows that change.
 use Rattle.std.proofs.Common.{◌≡◌, ◌≢◌, ◌↔◌, ◌∙◌, ◌⊎◌, inl, inr, ℕ, zero, suc, ◌<◌, List, [], ◌∷◌, ◌++◌, length, take, set, get_or, Some, pos, sym, refl, subst, ap, arith, All}
 use Rattle.std.specs.List.{AllZip, Contains}
-use Rattle.std.specs.Global.{Vec}
+use Rattle.indexed_rows.specs.declared.list.Column.{Column}
 use Rattle.std.specs.Prelude.{slice_get}
 use Rattle.std.proofs.lemmas.Bool.{cases_eq}
 use Rattle.std.proofs.lemmas.List.{length-set, length-append, get_or-set_same, get_or-set_other}
@@ -25,20 +25,20 @@ index_of_none = record {
   };
 }
 
-pub newest_indexed : (rows : List (List (List Term))) (lists : List (List (Vec ℕ))) → AllZip IsIndexOf rows lists → IsIndexOf (get_or rows 0 []) (get_or lists 0 [])
+pub newest_indexed : (rows : List (List (List Term))) (lists : List (List Column)) → AllZip IsIndexOf rows lists → IsIndexOf (get_or rows 0 []) (get_or lists 0 [])
 newest_indexed [] [] are = index_of_none
 newest_indexed [] (l ∷ lists) are = absurd are
 newest_indexed (r ∷ rows) [] are = absurd are
 newest_indexed (r ∷ rows) (l ∷ lists) are = are.0
 
-pub take_indexed : (n : ℕ) (rows : List (List (List Term))) (lists : List (List (Vec ℕ))) → AllZip IsIndexOf rows lists → AllZip IsIndexOf (take n rows) (take n lists)
+pub take_indexed : (n : ℕ) (rows : List (List (List Term))) (lists : List (List Column)) → AllZip IsIndexOf rows lists → AllZip IsIndexOf (take n rows) (take n lists)
 take_indexed zero rows lists are = tt
 take_indexed (suc n) [] [] are = tt
 take_indexed (suc n) [] (l ∷ lists) are = absurd are
 take_indexed (suc n) (r ∷ rows) [] are = absurd are
 take_indexed (suc n) (r ∷ rows) (l ∷ lists) are = (are.0, take_indexed n rows lists are.1)
 
-pub as_many : (rows : List (List (List Term))) (lists : List (List (Vec ℕ))) → AllZip IsIndexOf rows lists → length lists ≡ length rows
+pub as_many : (rows : List (List (List Term))) (lists : List (List Column)) → AllZip IsIndexOf rows lists → length lists ≡ length rows
 as_many [] [] are = refl
 as_many [] (l ∷ lists) are = absurd are
 as_many (r ∷ rows) [] are = absurd are
@@ -88,7 +88,7 @@ row_got [] w row e = cc
 row_got (r ∷ rows) zero row e = cc
 row_got (r ∷ rows) (suc w) row e = row_got rows w row e
 
-pub listed_before : (rows : List (List Term)) (lists : List (Vec ℕ)) (w : ℕ) (row : List Term) → IsIndexOf rows lists → row ≡ row_at rows w → IsKeptRow row → IsListedAt w row lists
+pub listed_before : (rows : List (List Term)) (lists : List Column) (w : ℕ) (row : List Term) → IsIndexOf rows lists → row ≡ row_at rows w → IsKeptRow row → IsListedAt w row lists
 listed_before rows lists w row index is kept = record {
   rising = λ c. (index.columns c).rising;
   listed = λ c.
@@ -97,21 +97,21 @@ listed_before rows lists w row index is kept = record {
       (λ h. (number_at_column c row kept).0 (exact.0 h), λ h. exact.1 ((number_at_column c row kept).1 h));
 }
 
-own_column : (rows : List (List Term)) (lists : List (Vec ℕ)) (w c : ℕ) (row : List Term) → w < length rows → IsKeptRow row → IsListedAt w row lists
+own_column : (rows : List (List Term)) (lists : List Column) (w c : ℕ) (row : List Term) → w < length rows → IsKeptRow row → IsListedAt w row lists
     → Contains (list_at lists c) w ↔ (coefficient c (row_at (set rows w row) w) ≢ pos 0)
 own_column rows lists w c row within kept own =
     let read : row ≡ row_at (set rows w row) w = sym (get_or-set_same rows w row [] within) in
     subst (λ (r : List Term). Contains (list_at lists c) w ↔ (coefficient c r ≢ pos 0)) read
     (λ h. (number_at_column c row kept).1 ((own.listed c).0 h), λ h. (own.listed c).1 ((number_at_column c row kept).0 h))
 
-other_column : (rows : List (List Term)) (old new : List (Vec ℕ)) (w c v : ℕ) (row : List Term) → v ≢ w → IsIndexOf rows old → IsSameBut w old new
+other_column : (rows : List (List Term)) (old new : List Column) (w c v : ℕ) (row : List Term) → v ≢ w → IsIndexOf rows old → IsSameBut w old new
     → Contains (list_at new c) v ↔ (coefficient c (row_at (set rows w row) v) ≢ pos 0)
 other_column rows old new w c v row other index same =
     let read : row_at rows v ≡ row_at (set rows w row) v = sym (get_or-set_other rows w v row [] other) in
     subst (λ (r : List Term). Contains (list_at new c) v ↔ (coefficient c r ≢ pos 0)) read
     (λ h. ((index.columns c).exact v).0 ((same.others c v other).0 h), λ h. (same.others c v other).1 (((index.columns c).exact v).1 h))
 
-pub index_after : (rows : List (List Term)) (old new : List (Vec ℕ)) (w : ℕ) (row : List Term) → IsIndexOf rows old → w < length rows → IsKeptRow row → IsListedAt w row new → IsSameBut w old new
+pub index_after : (rows : List (List Term)) (old new : List Column) (w : ℕ) (row : List Term) → IsIndexOf rows old → w < length rows → IsKeptRow row → IsListedAt w row new → IsSameBut w old new
     → IsIndexOf (set rows w row) new
 index_after rows old new w row index within kept own same = record {
   lengths = same.lengths ∙ index.lengths ∙ sym (length-set rows w row);
@@ -135,7 +135,7 @@ has_at (t ∷ row) zero d within = inl refl
 has_at (t ∷ row) (suc k) d within = inr (has_at row k d (omega (arith, within)))
 
 -- the columns of a row have lists
-pub row_below : (rows : List (List Term)) (lists : List (Vec ℕ)) (w : ℕ) (row : List Term) → IsIndexOf rows lists → row ≡ row_at rows w → IsKeptRow row → All (λ t. t.col < length rows) row
+pub row_below : (rows : List (List Term)) (lists : List Column) (w : ℕ) (row : List Term) → IsIndexOf rows lists → row ≡ row_at rows w → IsKeptRow row → All (λ t. t.col < length rows) row
 row_below rows lists w row index is kept k d within =
     let own : IsListedAt w row lists = listed_before rows lists w row index is kept in
     omega (
@@ -156,7 +156,7 @@ slots_within rows c list is k d within =
 
 -- ---- a slot is appended
 
-list_pushed : (lists : List (Vec ℕ)) (v : Vec ℕ) (c : ℕ) → v.items ≡ [] → list_at (lists ++ v ∷ []) c ≡ list_at lists c
+list_pushed : (lists : List Column) (v : Column) (c : ℕ) → v.slots.items ≡ [] → list_at (lists ++ v ∷ []) c ≡ list_at lists c
 list_pushed [] v zero empty = empty
 list_pushed [] v (suc c) empty = refl
 list_pushed (l ∷ lists) v zero empty = refl
@@ -168,7 +168,7 @@ row_pushed [] (suc w) = refl
 row_pushed (r ∷ rows) zero = refl
 row_pushed (r ∷ rows) (suc w) = row_pushed rows w
 
-pub index_pushed : (rows : List (List Term)) (lists : List (Vec ℕ)) (v : Vec ℕ) → v.items ≡ [] → IsIndexOf rows lists → IsIndexOf (rows ++ [] ∷ []) (lists ++ v ∷ [])
+pub index_pushed : (rows : List (List Term)) (lists : List Column) (v : Column) → v.slots.items ≡ [] → IsIndexOf rows lists → IsIndexOf (rows ++ [] ∷ []) (lists ++ v ∷ [])
 index_pushed rows lists v empty index = record {
   lengths = omega (arith, length-append lists (v ∷ []), length-append rows ([] ∷ []), index.lengths);
   columns = λ c. record {
@@ -192,11 +192,11 @@ set_last [] row = refl
 set_last (r ∷ rows) row = ap (λ rs. r ∷ rs) (set_last rows row)
 
 -- the empty row of the slot that was appended is not listed
-pub listed_pushed : (rows : List (List Term)) (lists : List (Vec ℕ)) (v : Vec ℕ) → v.items ≡ [] → IsIndexOf rows lists → IsListedAt (length rows) [] (lists ++ v ∷ [])
+pub listed_pushed : (rows : List (List Term)) (lists : List Column) (v : Column) → v.slots.items ≡ [] → IsIndexOf rows lists → IsListedAt (length rows) [] (lists ++ v ∷ [])
 listed_pushed rows lists v empty index =
     listed_before (rows ++ [] ∷ []) (lists ++ v ∷ []) (length rows) [] (index_pushed rows lists v empty index) (sym (get_or-append_seam rows [] [] [])) none_kept
 
-pub index_appended : (rows : List (List Term)) (lists new : List (Vec ℕ)) (v : Vec ℕ) (row : List Term) → v.items ≡ [] → IsIndexOf rows lists → IsKeptRow row → IsListedAt (length rows) row new
+pub index_appended : (rows : List (List Term)) (lists new : List Column) (v : Column) (row : List Term) → v.slots.items ≡ [] → IsIndexOf rows lists → IsKeptRow row → IsListedAt (length rows) row new
     → IsSameBut (length rows) (lists ++ v ∷ []) new → IsIndexOf (rows ++ row ∷ []) new
 index_appended rows lists new v row empty index kept own same =
     subst (λ (rs : List (List Term)). IsIndexOf rs new) (set_last rows row)

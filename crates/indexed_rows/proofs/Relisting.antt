@@ -1,7 +1,7 @@
 -- The walk over the old and the new row.
 use Rattle.std.proofs.Common.{◌≡◌, ◌≢◌, ◌↔◌, ◌∙◌, ◌⊎◌, inl, inr, ℕ, zero, suc, ◌+◌, ◌<◌, ◌≤◌, List, [], ◌∷◌, ◌++◌, length, take, drop, get_or, sym, refl, subst, ap, arith, All}
 use Rattle.std.specs.List.{Contains}
-use Rattle.std.specs.Global.{Vec}
+use Rattle.indexed_rows.specs.declared.list.Column.{Column}
 use Rattle.std.proofs.lemmas.Bool.{cases_eq, cases_lt}
 use Rattle.std.proofs.lemmas.List.{take_more, get_or_default, length-drop, get_or-drop}
 use Rattle.std.proofs.lemmas.List.Elements.{All-push}
@@ -107,7 +107,7 @@ between_both c s t xs ys same = (
 turned : {P Q : Type 0} → P ↔ Q → Q ↔ P
 turned f = (f.1, f.0)
 
-listed_with : (w c : ℕ) (row more : List Term) (old new : List (Vec ℕ)) → IsListedAt w row old → IsChangedAt (IsWith w) c old new
+listed_with : (w c : ℕ) (row more : List Term) (old new : List Column) → IsListedAt w row old → IsChangedAt (IsWith w) c old new
     → ((d : ℕ) → d ≢ c → HasColumn d more ↔ HasColumn d row) → HasColumn c more → IsListedAt w more new
 listed_with w c row more old new is changed alike here = record {
   rising = λ d.
@@ -124,7 +124,7 @@ listed_with w c row more old new is changed alike here = record {
       ];
 }
 
-listed_without : (w c : ℕ) (row less : List Term) (old new : List (Vec ℕ)) → IsListedAt w row old → IsChangedAt (IsWithout w) c old new
+listed_without : (w c : ℕ) (row less : List Term) (old new : List Column) → IsListedAt w row old → IsChangedAt (IsWithout w) c old new
     → ((d : ℕ) → d ≢ c → HasColumn d less ↔ HasColumn d row) → (HasColumn c less → ⊥) → IsListedAt w less new
 listed_without w c row less old new is changed alike none = record {
   rising = λ d.
@@ -141,13 +141,13 @@ listed_without w c row less old new is changed alike none = record {
       ];
 }
 
-listed_alike : (w : ℕ) (row more : List Term) (lists : List (Vec ℕ)) → IsListedAt w row lists → ((d : ℕ) → HasColumn d more ↔ HasColumn d row) → IsListedAt w more lists
+listed_alike : (w : ℕ) (row more : List Term) (lists : List Column) → IsListedAt w row lists → ((d : ℕ) → HasColumn d more ↔ HasColumn d row) → IsListedAt w more lists
 listed_alike w row more lists is alike = record {
   rising = is.rising;
   listed = λ d. both_ways (is.listed d) (turned (alike d));
 }
 
-pub same_with : (w c : ℕ) (old new : List (Vec ℕ)) → IsChangedAt (IsWith w) c old new → IsSameBut w old new
+pub same_with : (w c : ℕ) (old new : List Column) → IsChangedAt (IsWith w) c old new → IsSameBut w old new
 same_with w c old new changed = record {
   lengths = changed.lengths;
   others = λ d v other.
@@ -157,7 +157,7 @@ same_with w c old new changed = record {
       ];
 }
 
-pub same_without : (w c : ℕ) (old new : List (Vec ℕ)) → IsChangedAt (IsWithout w) c old new → IsSameBut w old new
+pub same_without : (w c : ℕ) (old new : List Column) → IsChangedAt (IsWithout w) c old new → IsSameBut w old new
 same_without w c old new changed = record {
   lengths = changed.lengths;
   others = λ d v other.
@@ -167,7 +167,7 @@ same_without w c old new changed = record {
       ];
 }
 
-pub same_then : (w : ℕ) (old mid new : List (Vec ℕ)) → IsSameBut w old mid → IsSameBut w mid new → IsSameBut w old new
+pub same_then : (w : ℕ) (old mid new : List Column) → IsSameBut w old mid → IsSameBut w mid new → IsSameBut w old new
 same_then w old mid new first second = record {
   lengths = second.lengths ∙ first.lengths;
   others = λ c v other. both_ways (second.others c v other) (first.others c v other);
@@ -209,7 +209,7 @@ old_none old new i j rising behind within h =
 behind_later : (out row : List Term) (i : ℕ) → IsBehind out row i → IsBehind out row (i + 1)
 behind_later out row i behind k d inside m le within = behind k d inside m (omega arith) within
 
-pub old_step : (change : RowChange) (i j : ℕ) (lists next : List (Vec ℕ)) (c : ℕ) → IsRising change.old.now → IsNext change.old.now i change.new.now j → c ≡ column_at change.old.now i
+pub old_step : (change : RowChange) (i j : ℕ) (lists next : List Column) (c : ℕ) → IsRising change.old.now → IsNext change.old.now i change.new.now j → c ≡ column_at change.old.now i
     → IsRelisted change i j lists → IsChangedAt (IsWithout change.w) c lists next → IsRelisted change (i + 1) j next
 old_step change i j lists next c rising first col is changed =
     let old : List Term = change.old.now in
@@ -243,7 +243,7 @@ behind_push new row i j within behind ahead =
     subst (λ (out : List Term). All Behind out) (sym (take_more new j nothing within))
     (All-push Behind (take j new) (get_or new j nothing) behind ahead)
 
-pub new_step : (change : RowChange) (i j : ℕ) (lists next : List (Vec ℕ)) (c : ℕ) → IsRising change.old.now → IsNext change.new.now j change.old.now i → c ≡ column_at change.new.now j
+pub new_step : (change : RowChange) (i j : ℕ) (lists next : List Column) (c : ℕ) → IsRising change.old.now → IsNext change.new.now j change.old.now i → c ≡ column_at change.new.now j
     → IsRelisted change i j lists → IsChangedAt (IsWith change.w) c lists next → IsRelisted change i (j + 1) next
 new_step change i j lists next c rising first col is changed =
     let old : List Term = change.old.now in
@@ -264,7 +264,7 @@ new_step change i j lists next c rising first col is changed =
           (with_here (get_or new j nothing) (take j new) (drop i old))));
     }
 
-pub both_step : (change : RowChange) (i j : ℕ) (lists : List (Vec ℕ)) → IsRising change.old.now → IsNextInBoth change.old.now i change.new.now j
+pub both_step : (change : RowChange) (i j : ℕ) (lists : List Column) → IsRising change.old.now → IsNextInBoth change.old.now i change.new.now j
     → IsRelisted change i j lists → IsRelisted change (i + 1) (j + 1) lists
 both_step change i j lists rising both is =
     let old : List Term = change.old.now in
@@ -284,7 +284,7 @@ both_step change i j lists rising both is =
     }
 
 -- the next column of the old row has a list
-pub has_list : (change : RowChange) (i j : ℕ) (lists : List (Vec ℕ)) → i < length change.old.now → IsRelisted change i j lists → column_at change.old.now i < length lists
+pub has_list : (change : RowChange) (i j : ℕ) (lists : List Column) → i < length change.old.now → IsRelisted change i j lists → column_at change.old.now i < length lists
 has_list change i j lists within is =
     let old : List Term = change.old.now in
     let new : List Term = change.new.now in

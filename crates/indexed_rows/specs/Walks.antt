@@ -1,6 +1,6 @@
 -- The walk over the old and the new row of a slot, by rising columns.
 use Rattle.std.specs.Prelude.{◌≡◌, ℕ, ◌<◌, ◌≤◌, List, ◌++◌, length, take, drop, All}
-use Rattle.std.specs.Global.{Vec}
+use Rattle.indexed_rows.specs.declared.list.Column.{Column}
 use Rattle.row_core.specs.Rows.{Term}
 use Rattle.row_core.specs.Walks.{column_at}
 use Rattle.indexed_rows.specs.Lists.{IsListedAt}
@@ -22,7 +22,7 @@ abbrev pub IsBehind : List Term → List Term → ℕ → Type 0
 IsBehind read row i = All (λ t. (m : ℕ) → i ≤ m → m < length row → t.col < column_at row m) read
 
 -- the slot is listed for the first j entries of the new row and for the old row's from i on
-pub record IsRelisted (change : RowChange) (i j : ℕ) (lists : List (Vec ℕ)) : Type 0 where
+pub record IsRelisted (change : RowChange) (i j : ℕ) (lists : List Column) : Type 0 where
   pub old_within : i ≤ length change.old.now
   pub new_within : j ≤ length change.new.now
   pub behind : IsBehind (take j change.new.now) change.old.now i

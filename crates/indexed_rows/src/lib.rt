@@ -4,8 +4,8 @@
 //! itself a column of the rows: [`IndexedRows::row`] gives the row of a slot, and [`IndexedRows::column`] the
 //! slots of the rows in which a slot stands as a column, rising. [`IndexedRows::put`] replaces a row and
 //! costs what it changes: one walk over the old and the new row, and for each column that only one of them
-//! has a binary search in the column's list. From a mark on, a list is cloned at its first change, and the
-//! row that a put replaces is moved.
+//! has a binary search in the column's list. From a mark on, a list is cloned at its first change, with
+//! room for some slots more, and the row that a put replaces is moved.
 //!
 //! [`IndexedRows::mark`] keeps the rows of now as an earlier version, and [`IndexedRows::back`] returns to
 //! the newest of these. Neither wants memory. Where a `put` or a `push` wants memory that isn't there, the
@@ -43,6 +43,7 @@ mod list;
 mod lists;
 
 use frac_core::OutOfMemory;
+use list::Column;
 use lists::{RowChange, relist};
 use row_core::{Col, IntRow};
 use std::alloc::Global;
@@ -54,7 +55,7 @@ use version_list::VersionList;
 pub struct IndexedRows {
     rows: VersionList<IntRow>,
     // For each slot the rows in which it stands as a column.
-    lists: VersionList<Vec<u32>>,
+    lists: VersionList<Column>,
     alloc: Global,
 }
 
@@ -72,7 +73,7 @@ impl Model for IndexedRows {
 // Replaces the row of a slot, and brings the lists up to date.
 fn replace(
     rows: &mut VersionList<IntRow>,
-    lists: &mut VersionList<Vec<u32>>,
+    lists: &mut VersionList<Column>,
     w: u32,
     row: IntRow,
 ) -> Result<(), OutOfMemory>
@@ -96,7 +97,7 @@ fn replace(
 // Appends a row with its slot.
 fn append(
     rows: &mut VersionList<IntRow>,
-    lists: &mut VersionList<Vec<u32>>,
+    lists: &mut VersionList<Column>,
     alloc: Global,
     row: IntRow,
 ) -> Result<(), OutOfMemory>
@@ -109,7 +110,7 @@ fn append(
     ensures lists_before { lists.new.before ≡ lists.old.before }
 {
     let w = rows.len() as u32;
-    lists.push(Vec::new(alloc))?;
+    lists.push(Column::new(alloc))?;
     let change = RowChange {
         w,
         old: &[],
@@ -124,9 +125,16 @@ impl IndexedRows {
     pub fn new(alloc: Global) -> Result<IndexedRows, OutOfMemory>
         ensures { IfOk result (λ m. m ≡ record { rows = []; before = [] }) }
     {
+        IndexedRows::with_room(alloc, 0)
+    }
+
+    /// The same with memory for so many slots, what their rows take left out.
+    pub fn with_room(alloc: Global, room: usize) -> Result<IndexedRows, OutOfMemory>
+        ensures { IfOk result (λ m. m ≡ record { rows = []; before = [] }) }
+    {
         Ok(IndexedRows {
-            rows: VersionList::new(alloc)?,
-            lists: VersionList::new(alloc)?,
+            rows: VersionList::with_room(alloc, room)?,
+            lists: VersionList::with_room(alloc, room)?,
             alloc,
         })
     }
@@ -180,7 +188,7 @@ impl IndexedRows {
         ensures value { IsColumnOf self.now.rows c result.now }
         ensures slots { All (λ w. w < length self.now.rows) result.now }
     {
-        self.lists.get(c as usize).as_slice()
+        self.lists.get(c as usize).slots.as_slice()
     }
 
     /// Puts a row in the place of a slot's. After want of memory the rows are as after `rewind`.

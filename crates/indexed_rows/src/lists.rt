@@ -8,31 +8,31 @@ ghost use Rattle.indexed_rows.specs.Matrices.{IsBelow};
 ghost use Rattle.indexed_rows.specs.Walks.{IsNext, IsNextInBoth, IsRelisted};
 ghost use Rattle.indexed_rows.specs.declared.lists.Turn.TheVariants.{Old, New, Both};
 
-use crate::list::{put_in, take_out};
+use crate::list::{Column, put_in, take_out};
 use frac_core::OutOfMemory;
 use row_core::{Col, Entry};
 use version_list::VersionList;
 
 // Puts w into the list of the column.
-fn list_one(lists: &mut VersionList<Vec<u32>>, col: Col, w: u32) -> Result<(), OutOfMemory>
+fn list_one(lists: &mut VersionList<Column>, col: Col, w: u32) -> Result<(), OutOfMemory>
     requires within { col.0 < length lists.old.items }
     requires rising { IsRisingList (list_at lists.old.items col.0) }
     ensures ok { OnOk result (IsChangedAt (IsWith w) col.0 lists.old.items lists.new.items) }
     ensures before { lists.new.before ≡ lists.old.before }
 {
     let list = lists.edit(col.0 as usize)?;
-    put_in(list, w)
+    put_in(&mut list.slots, w)
 }
 
 // Takes w out of the list of the column.
-fn unlist_one(lists: &mut VersionList<Vec<u32>>, col: Col, w: u32) -> Result<(), OutOfMemory>
+fn unlist_one(lists: &mut VersionList<Column>, col: Col, w: u32) -> Result<(), OutOfMemory>
     requires within { col.0 < length lists.old.items }
     requires rising { IsRisingList (list_at lists.old.items col.0) }
     ensures ok { OnOk result (IsChangedAt (IsWithout w) col.0 lists.old.items lists.new.items) }
     ensures before { lists.new.before ≡ lists.old.before }
 {
     let list = lists.edit(col.0 as usize)?;
-    take_out(list, w);
+    take_out(&mut list.slots, w);
     Ok(())
 }
 
@@ -86,7 +86,7 @@ fn next_turn(change: &RowChange<'_>, at: Place) -> Turn
 
 // Reads what the two rows have at the next column, and changes its list where one of them lacks it.
 fn step(
-    lists: &mut VersionList<Vec<u32>>,
+    lists: &mut VersionList<Column>,
     change: &RowChange<'_>,
     at: Place,
 ) -> Result<Place, OutOfMemory>
@@ -123,7 +123,7 @@ fn step(
 /// Takes the slot out of the lists of the columns that only the old row has, and puts it into those that
 /// only the new row has.
 pub(crate) fn relist(
-    lists: &mut VersionList<Vec<u32>>,
+    lists: &mut VersionList<Column>,
     change: &RowChange<'_>,
 ) -> Result<(), OutOfMemory>
     requires old { IsRising change.now.old.now }

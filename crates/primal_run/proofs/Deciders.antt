@@ -1,5 +1,5 @@
 -- Which mark of the first corner decides: the first in the order of ties, and what counts 0.
-use Rattle.std.proofs.Common.{◌≡◌, ◌≢◌, ◌∙◌, ◌⊎◌, inl, inr, ℕ, zero, suc, ◌+◌, ◌*◌, ◌<◌, ◌≤◌, Bool, false, cond, List, [], ◌∷◌, map, get_or, length, take, slice_get, Some, None, IfSome, ℤ, pos, negsuc, ◌*ℤ◌, ◌<ℤ◌, neg_ℤ, refl, sym, ap, ap₂, subst, arith, ne_eqb, All}
+use Rattle.std.proofs.Common.{◌≡◌, ◌≢◌, ◌∙◌, ◌⊎◌, inl, inr, ℕ, zero, suc, ◌+◌, ◌<◌, ◌≤◌, Bool, false, cond, List, [], ◌∷◌, map, get_or, length, take, slice_get, Some, None, ℤ, pos, negsuc, ◌*ℤ◌, ◌<ℤ◌, neg_ℤ, refl, sym, ap, ap₂, subst, arith, ne_eqb, All}
 use Rattle.std.specs.declared.cmp.Ordering.{Ordering}
 use Rattle.std.specs.declared.cmp.Ordering.TheVariants.{Less, Equal, Greater}
 use Rattle.std.specs.declared.option.Option.{Option}
@@ -16,7 +16,8 @@ use Rattle.problem_core.specs.declared.parts.Side.{Side}
 use Rattle.problem_core.specs.declared.parts.Side.TheVariants.{Under, Over}
 use Rattle.problem_core.specs.declared.parts.Stay.{Stay}
 use Rattle.problem_core.specs.Layout.{Problem, coefficient}
-use Rattle.problem_core.specs.Corners.{IsIn, place, place_of}
+use Rattle.problem_core.specs.Corners.{IsIn, SameMarks, Swap, place, place_of}
+use Rattle.problem_core.specs.Changes.Paths.{last_marks}
 use Rattle.problem_core.proofs.Forms.{each-impl}
 use Rattle.corner_laws.specs.Runs.{BreaksTie, Writes, Writing, count_at}
 use Rattle.corner_laws.proofs.RunSteps.RunPaths.{contains_in}
@@ -24,11 +25,11 @@ use Rattle.corner_laws.proofs.MarkWritings.Equations.{writings_are_equal}
 use Rattle.corner_laws.proofs.MarkWritings.LowestForms.{column_has_writing}
 use Rattle.corner_table.proofs.Readings.KeptFacts.{in_is, is_in}
 use Rattle.corner.specs.Views.{CornerView, IsKeptCorner}
-use Rattle.corner_writings.specs.Entries.{AreEntries}
+use Rattle.corner_writings.specs.Entries.{AreBothOutside, AreEntries}
 use Rattle.corner_ends.specs.Trails.{IsTrailOf, Trail, in_tie_order}
 use Rattle.corner_ends.proofs.TieOrders.{all_from, tied_same}
 use Rattle.primal_run.proofs.TieKeys.{AreTieRising, IsTieAbove, ties_rising}
-use Rattle.corner_ends.proofs.Marks.{contained, in_mark, one_mark, some_here, took_more}
+use Rattle.corner_ends.proofs.Marks.{contained, in_mark, one_mark, took_more}
 use Rattle.primal_run.specs.declared.deciding.Decider.{Decider}
 use Rattle.primal_run.specs.declared.deciding.Tie.{Tie}
 use Rattle.primal_run.specs.Deciding.{HasBegun, IsDecider, IsNoLater, IsOfRow, IsOrderAt, IsSeen, tie_key}
@@ -153,11 +154,19 @@ row_seen c trail tie found m f names i are over h own here =
           (subst (AreSeenLines c trail tie found) (take_all i names over) h) (are.all f.row entry) f.side
     ]
 
-pub sooner_is : (P : Decider → Type 0) (found : Option Decider) (d next : Decider) → (found ≡ Some d) ⊎ (d ≡ next) → IfSome found P → P next → P d
-sooner_is P found d next one h g =
-    elim one [
-      | inl e ↦ some_here found P d h e
-      | inr e ↦ subst P (sym e) g
+-- where nothing is exchanged, what was inside the first corner is inside
+began-here : (first at : List Mark) (swaps : List Swap) (k : ℕ) → length swaps < 1 → SameMarks (last_marks first swaps) at → IsIn k first → IsIn k at
+began-here first at [] k few same i = contains_in first at k same.0 i
+began-here first at (s ∷ swaps) k few same i = absurd (omega (arith, few))
+
+pub unexchanged_seen : (c : CornerView) (trail : Trail) (tie : Tie) (found : Option Decider) (m f : Mark) (names : List RowName) → AreEntries c m names → length trail.swaps < 1
+    → ((side : Side) → IsSeen c trail tie found (record { row = m.row; side = side })) → IsOfRow c.problem c.marks m f.row → IsSeen c trail tie found f
+unexchanged_seen c trail tie found m f names are few own here =
+    elim here [
+      | inl e ↦ subst (λ (name : RowName). IsSeen c trail tie found (record { row = name; side = f.side })) (sym e) (own f.side)
+      | inr entry ↦ λ first run among.
+          let both : AreBothOutside c.problem c.marks f.row = contained (AreBothOutside c.problem c.marks) names f.row are.outside (are.all f.row entry) in
+          absurd ((both f.side).1 (began-here first c.marks trail.swaps (place f) few run.swapped.here (is_in first (place f) among)))
     ]
 
 -- ---- which of two wins the tie

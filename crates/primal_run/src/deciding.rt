@@ -1,13 +1,14 @@
 // Which of two inside marks comes to 0 first, and which mark of the run's first corner decides where they
 // come to 0 together.
-ghost use Rattle.std.specs.Prelude.{◌≡◌, ◌<◌, ◌≤◌, ◌⊎◌, Some, IfSome, true, false};
+ghost use Rattle.std.specs.Prelude.{◌≡◌, ◌<◌, ◌≤◌, Some, IfSome, true, false};
+ghost use Rattle.std.specs.declared.cmp.Ordering as order_type;
 ghost use Rattle.std.specs.declared.cmp.Ordering.TheVariants.{Equal as AreEqual, Less as IsLess};
 ghost use Rattle.problem_core.specs.Corners as corners;
 ghost use Rattle.problem_core.specs.Corners.{IsIn};
 ghost use Rattle.problem_core.specs.declared.parts.Mark as mark_type;
 ghost use Rattle.problem_core.specs.declared.parts.Side as side_type;
 ghost use Rattle.corner.specs.Views.{IsMarkOf, IsNamed};
-ghost use Rattle.primal_run.specs.Deciding.{FromTies, HasBegun, IsDecider, IsNoLater, IsOfRow};
+ghost use Rattle.primal_run.specs.Deciding.{FromTies, HasBegun, IsDecider, IsLate, IsNoLater, IsOfRow};
 ghost use Rattle.primal_run.specs.Deciding.{IsSeen, IsTie, line_key, mark_key, tie_key};
 ghost use Rattle.primal_run.specs.Leaving.{IsEarlier, IsRatioAt, WinsTie};
 
@@ -85,23 +86,17 @@ fn decides_before(c: &Corner, f: Mark, g: Mark) -> bool
     }
 }
 
-// The one of the two that decides before the other.
-fn sooner(c: &Corner, found: Option<Decider>, next: Decider) -> Decider
+// Whether what is found decides no later than the mark, so that nothing is to be asked about it.
+fn is_late(c: &Corner, found: Option<Decider>, f: Mark) -> bool
+    requires f { IsMarkOf c.now.problem f }
     requires found { IfSome found (λ d. IsMarkOf c.now.problem d.mark) }
-    requires next { IsMarkOf c.now.problem next.mark }
-    ensures one { (found ≡ Some result) ⊎ (result ≡ next) }
-    ensures found { IsNoLater c.now.problem found (Some result) }
-    ensures next { tie_key c.now.problem.stays result.mark ≤ tie_key c.now.problem.stays next.mark }
+    ensures yes { result ≡ true → IsLate c.now.problem found f }
+    ensures no { result ≡ false → (order : order_type.Ordering)
+        → IsNoLater c.now.problem found (Some (record { mark = f; order = order })) }
 {
     match found {
-        None => next,
-        Some(d) => {
-            if decides_before(c, next.mark, d.mark) {
-                next
-            } else {
-                d
-            }
-        }
+        Some(d) => !decides_before(c, f, d.mark),
+        None => false,
     }
 }
 
@@ -127,6 +122,9 @@ fn see_mark(c: &Corner, trail: &Trail, tie: Tie, f: Mark, found: Option<Decider>
     ensures later { IsNoLater c.now.problem found result }
     ensures seen { IsSeen c.now trail.now tie result f }
 {
+    if is_late(c, found, f) {
+        return found;
+    }
     if !trail.began_with(c, f) {
         return found;
     }
@@ -134,7 +132,7 @@ fn see_mark(c: &Corner, trail: &Trail, tie: Tie, f: Mark, found: Option<Decider>
     if is_equal(order) {
         return found;
     }
-    Some(sooner(c, found, Decider { mark: f, order }))
+    Some(Decider { mark: f, order })
 }
 
 // What decides, where the marks of one line more are looked at.
@@ -167,7 +165,8 @@ fn see_line(
     see_mark(c, trail, tie, over, found)
 }
 
-// What decides, where the marks of an inside mark's line and of the lines in its writing are looked at.
+// What decides, where the marks of an inside mark's line and of the lines in its writing are looked at. Those
+// lines have no mark inside now, and none in the first corner as long as nothing is exchanged.
 fn see_row(c: &Corner, trail: &Trail, tie: Tie, m: Mark, found: Option<Decider>) -> Option<Decider>
     requires tie { IsTie c.now.marks tie }
     requires inside { IsIn (corners.place m) c.now.marks }
@@ -182,6 +181,9 @@ fn see_row(c: &Corner, trail: &Trail, tie: Tie, m: Mark, found: Option<Decider>)
     c.show_corner(); // for the proof: what a corner keeps
     let count = c.entries(m);
     let mut best = see_line(c, trail, tie, m.row, found);
+    if !trail.is_spent(1) {
+        return best;
+    }
     for i in 0..count {
         best = see_line(c, trail, tie, c.entry(m, i), best);
     }

@@ -2,7 +2,7 @@
 ghost use Rattle.std.specs.Prelude.{◌≡◌, ◌⊎◌, ◌<◌, ◌-◌, ◌<ℤ◌, [], pos, length, true};
 ghost use Rattle.std.specs.Prelude.{false, IfSome, IfNone, Some, None};
 ghost use Rattle.problem_core.specs.Corners.{HasNegativeColumn};
-ghost use Rattle.corner.specs.Views.{IsFrontOf, IsLevelOf, IsMarkOf, IsNamed};
+ghost use Rattle.corner.specs.Views.{IsFoundOf, IsFrontOf, IsLevelOf, IsMarkOf, IsNamed};
 ghost use Rattle.corner.specs.Changes.{HasNoNegative};
 ghost use Rattle.corner_ends.specs.Columns.{IsNegative};
 ghost use Rattle.primal_run.specs.Entering.{IsChoice};
@@ -19,15 +19,16 @@ pub(crate) struct Choice {
 }
 
 // The mark's front, where its column is negative.
-fn negative_front(c: &Corner, mark: Mark) -> Option<Front>
-    requires { IsMarkOf c.now.problem mark }
+fn negative_front(c: &Corner, mark: Mark, found: Option<Front>) -> Option<Front>
+    requires mark { IsMarkOf c.now.problem mark }
+    requires found { IsFoundOf c.now.problem c.now.marks mark found }
     ensures some { IfSome result (λ _. IsNegative c.now.problem c.now.marks mark) }
     ensures front { IfSome result (IsFrontOf c.now.problem c.now.marks mark) }
     ensures below { IfSome result (λ front. front.reduced <ℤ pos 0) }
     ensures none { IfNone result (HasNegativeColumn c.now.problem c.now.marks mark → ⊥) }
 {
     c.show_corner(); // for the proof: what a corner keeps
-    let front = c.front(mark)?;
+    let front = found?;
     if is_below(front.reduced) {
         Some(front)
     } else {
@@ -49,10 +50,11 @@ fn negative_of(c: &Corner, row: RowName) -> Option<Choice>
     ensures none { IfNone result (HasNoNegative c.now.problem c.now.marks row) }
 {
     let (under, over) = (mark_at(row, Side::Under), mark_at(row, Side::Over));
-    match negative_front(c, under) {
+    let fronts = c.fronts(row);
+    match negative_front(c, under, fronts.under) {
         Some(front) => Some(Choice { mark: under, front }),
         None => {
-            let front = negative_front(c, over)?;
+            let front = negative_front(c, over, fronts.over)?;
             Some(Choice { mark: over, front })
         }
     }

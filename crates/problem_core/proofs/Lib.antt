@@ -9,4 +9,6 @@ pub mod Wholes
 pub mod GapFacts
 pub mod Sides
 pub mod Lines
+pub mod SortedNumbers
+pub mod StayNumbers
 pub mod Marks

@@ -4,6 +4,7 @@ pub mod Kept
 pub mod Common
 pub mod Gaps
 pub mod Fields
+pub mod Numbers
 pub mod Window
 pub mod Certificates
 pub mod Corners

@@ -25,17 +25,17 @@
 //! each has a stay, one alone; there are at most [`ROW_LIMIT`] rows and as many stays.
 //!
 //! In reading order: `limits`, `parts` (relations, terms, stays, marks, levels), `row`, `problem`, `values`
-//! (of attributes), `common` (least common multiples), `gaps` (the sign of a row's gap), `places` (marks by
-//! number), `stops` (what doesn't fit at a corner), `laws`: what is best by what reasons, each the contract
-//! of a function that does nothing.
+//! (of attributes), `numbers` (of the stays' attributes), `common` (least common multiples), `gaps` (the sign
+//! of a row's gap), `stops` (what doesn't fit at a corner), `laws`: what is best by what reasons, each the
+//! contract of a function that does nothing.
 #![tactic(auto)]
 
 mod common;
 mod gaps;
 mod laws;
 mod limits;
+mod numbers;
 mod parts;
-mod places;
 mod problem;
 mod row;
 mod stops;
@@ -53,8 +53,8 @@ pub use limits::{
     COEFFICIENT_LIMIT, FIRST_STAY_LEVEL, GAP_ROOM, MARKS, NUMBER_LIMIT, REQUIRED, ROW_LIMIT,
     TERM_LIMIT, WEIGHT_LIMIT, constants_are_as_said,
 };
+pub use numbers::numbers_of;
 pub use parts::{Level, Mark, Rel, RowName, Side, Stay, Term};
-pub use places::{mark_at, place};
 pub use problem::Problem;
 pub use row::Row;
 pub use stops::{Quantity, TableStop, What};

@@ -31,7 +31,7 @@ pub record IsDivisorSoFar (sum : Sum) (at : Place) (divisor : ℕ) : Type 0 wher
   pub greatest : (d : ℕ) → DividesWhole d (whole sum) → d ∣ divisor
   pub small : divisor < 2 ^ 127
 
-gcd_small : (a b g n : ℕ) → IsGcd a b g → a < n → b < n → g < n
+pub gcd_small : (a b g n : ℕ) → IsGcd a b g → a < n → b < n → g < n
 gcd_small zero zero g n is a_small b_small =
     let none : g ≡ 0 = eq-zero_of_zero-dvd (is.2 0 (dvd-zero 0) (dvd-zero 0)) in
     omega (arith, none, a_small)

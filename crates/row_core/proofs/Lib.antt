@@ -1,4 +1,6 @@
 pub mod Dividing
+pub mod Entries
+pub mod Gathering
 pub mod Lowest
 pub mod Negated
 pub mod Patches

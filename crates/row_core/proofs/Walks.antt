@@ -1,5 +1,5 @@
 -- The reading of two rows from the lowest column up.
-use Rattle.std.proofs.Common.{Option, Some, None, IfSome, ◌≡◌, ◌≢◌, ℕ, ◌+◌, ◌<◌, ◌≤◌, length, get_or, Bool, true, false, cond, nat_eq, List, ℤ, pos, ◌+ℤ◌, ◌*ℤ◌, sym, refl, ap, ap₂, ◌∙◌, arith, ◌⊎◌, inl, inr, ne_eqb, eq-eqb}
+use Rattle.std.proofs.Common.{Option, Some, None, IfSome, ◌≡◌, ◌≢◌, ℕ, ◌+◌, ◌<◌, ◌≤◌, length, get_or, Bool, true, false, cond, nat_eq, List, ℤ, pos, ◌+ℤ◌, ◌*ℤ◌, sym, subst, refl, ap, ap₂, ◌∙◌, arith, ◌⊎◌, inl, inr, ne_eqb, eq-eqb}
 use Rattle.std.specs.Prelude.{◌&&◌, unsigned_abs}
 use Rattle.std.proofs.lemmas.List.{get_or_default}
 use Rattle.std.proofs.lemmas.Bool.{cases_Bool, cases_lt}
@@ -9,7 +9,8 @@ use Rattle.row_core.specs.declared.walk.Sum.{Sum}
 use Rattle.row_core.specs.declared.walk.Place.{Place}
 use Rattle.row_core.specs.Rows.{Term, coefficient, IsRising, combination}
 use Rattle.row_core.specs.declared.walk.RowsRead.{RowsRead}
-use Rattle.row_core.specs.Walks.{IsRowRead, IsSumRead, HasNext, HasRisingRows, IsSmallProduct, IsRead, AreRead, IsFirst, IsEnd, column_at, whole, whole_of, steps}
+use Rattle.frac_core.specs.Fraction.{IsFitting}
+use Rattle.row_core.specs.Walks.{IsFactorOf, IsRowRead, IsSumRead, HasNext, HasRisingRows, IsSmallProduct, IsRead, AreRead, IsFirst, IsEnd, column_at, whole, whole_of, steps}
 use Rattle.row_core.proofs.Places.{absent, coefficient_at}
 use Rattle.row_core.proofs.Patches.{none_either}
 use Rattle.frac_core.proofs.Bools.{count-other as not_here, true-not-false as differ}
@@ -245,7 +246,7 @@ zero_product : (k : ℤ) → IsSmallProduct k (pos 0)
 zero_product k = let none : unsigned_abs (k *ℤ pos 0) ≡ 0 = ap unsigned_abs (mul-zero_ℤ k) in omega (arith, none)
 
 -- a row that has no number there
-past_read : (row : List Term) (i col : ℕ) → IsRising row → (i < length row → col < column_at row i) → IsRowRead row i col (pos 0) i
+pub past_read : (row : List Term) (i col : ℕ) → IsRising row → (i < length row → col < column_at row i) → IsRowRead row i col (pos 0) i
 past_read row i col rising past = record {
   first = λ within. omega (arith, past within);
   value = λ floor is le. sym (no_number row i floor col rising is le past);
@@ -275,4 +276,30 @@ alone_read sum at rising waits r_past p_past =
           let from : floor ≤ sum.at.0 = floor_below sum at floor sum.at.0 are first in
           read_waiting sum at next sum.at.0 first waits added (left.read floor are.left from) (right.read floor are.right from);
       further = further_waiting sum at next sum.at.0 first waits added left.further right.further left.here right.here;
+    }
+
+-- the row's next entry, at its column
+pub entry_read : (row : List Term) (i : ℕ) (t : Term) → IsRising row → i < length row → t ≡ get_or row i nothing → ((k : ℤ) → IsFactorOf k row → IsSmallProduct k t.by) → IsRowRead row i t.col t.by (i + 1)
+entry_read row i t rising within is small =
+    let col : t.col ≡ column_at row i = ap (λ (s : Term). s.col) is in
+    let by : t.by ≡ (get_or row i nothing).by = ap (λ (s : Term). s.by) is in
+    record {
+      first = λ inside. omega (arith, col);
+      value = λ floor read le. by ∙ sym (number_here row i t.col rising within col);
+      read = λ floor read le.
+          record {
+            within = omega (arith, within);
+            before = λ m less.
+                elim (cases_lt m i) [
+                  | inl below ↦ omega (arith, read.before m below, le)
+                  | inr from ↦
+                      let on : m ≡ i = omega (arith, less, from) in
+                      rw on (omega (arith, col))
+                ];
+            behind = λ m from inside. omega (arith, col, rises row i m rising (omega (arith, from)) inside);
+          };
+      small = small;
+      fits = λ all. subst (λ (z : ℤ). IsFitting z) (sym by) (all i nothing within);
+      further = omega arith;
+      here = λ inside same. omega arith;
     }

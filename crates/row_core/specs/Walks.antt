@@ -5,7 +5,7 @@ use Rattle.std.specs.Prelude.{unsigned_abs, ◌⊎◌}
 use Prim.Native.Nat.{◌∣◌}
 use Rattle.frac_core.specs.Fraction.{IsFitting}
 use Rattle.frac_core.specs.declared.frac.TheConstants.{PART_BOUND}
-use Rattle.row_core.specs.Rows.{Term, AllFit, IsRising, coefficient, combination}
+use Rattle.row_core.specs.Rows.{Term, AllFit, AllNonzero, IsRising, coefficient, combination}
 use Rattle.row_core.specs.Combinations.{IsFactor}
 use Rattle.row_core.specs.declared.walk.TheConstants.{NARROW_FACTOR, NARROW_PRODUCT}
 use Rattle.row_core.specs.declared.walk.Sum.{Sum}
@@ -102,6 +102,43 @@ pub record IsRowRead (row : List Term) (i col : ℕ) (by : ℤ) (next : ℕ) : T
   pub further : i ≤ next
   pub here : i < length row → col ≡ column_at row i → i < next
 
+-- the first row's next entry has been read, and the second has none at its column
+abbrev pub from_left : Place → Term → RowsRead
+from_left at t =
+    record {
+      col = t.col;
+      left = t.by;
+      right = pos 0;
+      next = record { left = at.left + 1; right = at.right; is_added = at.is_added };
+    }
+
+-- the second row's next entry has been read, and the first has none at its column
+abbrev pub from_right : Place → Term → RowsRead
+from_right at t =
+    record {
+      col = t.col;
+      left = pos 0;
+      right = t.by;
+      next = record { left = at.left; right = at.right + 1; is_added = at.is_added };
+    }
+
+-- the next entries of both rows have been read, which are at one column
+abbrev pub from_both : Place → Term → Term → RowsRead
+from_both at s t =
+    record {
+      col = s.col;
+      left = s.by;
+      right = t.by;
+      next = record { left = at.left + 1; right = at.right + 1; is_added = at.is_added };
+    }
+
+-- of the two rows' next entries the lower one has been read, or both where they are at one column
+abbrev pub IsLowestOf : Place → Term → Term → RowsRead → Type 0
+IsLowestOf at s t x =
+    ((s.col < t.col) × (x ≡ from_left at s))
+    ⊎ (((t.col < s.col) × (x ≡ from_right at t))
+    ⊎ ((s.col ≡ t.col) × (x ≡ from_both at s t)))
+
 -- the number at one column alone has been read
 abbrev pub alone : Place → ℕ → RowsRead
 alone at col =
@@ -159,6 +196,19 @@ IsPushed divisor col by old new =
     ((by ≡ pos 0) × (new ≡ old))
     ⊎ ((q : ℤ) × (by ≢ pos 0) × (divisor *ℤ q ≡ by) × IsFitting q
     × (new ≡ old ++ record { col = col; by = q } ∷ []))
+
+-- the row has one more term with this number, unless that is 0
+abbrev pub IsPut : ℕ → ℤ → List Term → List Term → Type 0
+IsPut col by old new =
+    ((by ≡ pos 0) × (new ≡ old))
+    ⊎ ((by ≢ pos 0) × (new ≡ old ++ record { col = col; by = by } ∷ []))
+
+-- the row has these numbers, its columns rise, no number is 0, and each fits
+pub record IsWritten (row : List Term) (whole : ℕ → ℤ) : Type 0 where
+  pub same : (c : ℕ) → coefficient c row ≡ whole c
+  pub rising : IsRising row
+  pub nonzero : AllNonzero row
+  pub fits : AllFit row
 
 -- the quotient does not fit
 abbrev pub IsTooLarge : ℤ → ℤ → Type 0

@@ -4,12 +4,12 @@ ghost use Rattle.std.specs.Prelude.{IfErr, IfSome, IfNone};
 ghost use Prim.Native.Nat.{◌∣◌};
 ghost use Rattle.frac_core.specs.Fraction.{IsFitting};
 ghost use Rattle.row_core.specs.Rows.{IsKeptRow, IsReduced, IsUnfit};
-ghost use Rattle.row_core.specs.Walks.{CanBeAdded, HasRisingRows, DividesWhole, IsDivisor, IsPushed};
+ghost use Rattle.row_core.specs.Walks.{CanBeAdded, DividesWhole, IsDivisor, IsPushed};
 ghost use Rattle.row_core.specs.Walks.{IsTooLarge, whole};
 ghost use Rattle.frac_core.specs.Stops.{IsRefused};
 
 use crate::entry::{Col, Entry, RowStop};
-use crate::walk::{Sum, Wide, Width, start};
+use crate::walk::{Sum, read_wide, start};
 use frac_core::{PART_BOUND, Stop, Unfit, gcd, quotient};
 use std::alloc::Global;
 
@@ -22,7 +22,7 @@ fn common_divisor(sum: &Sum<'_>) -> u128
 {
     let mut divisor = 0;
     let mut at = start(sum);
-    while let Some(read) = Wide::next(sum, at) {
+    while let Some(read) = read_wide(sum, at) {
         divisor = gcd(read.by.unsigned_abs(), divisor);
         if divisor == 1 {
             return 1;
@@ -74,13 +74,8 @@ fn keep(out: &mut Vec<Entry>, col: u64, by: i128, divisor: i128) -> Result<(), R
 }
 
 /// The sum's numbers divided by their divisor, unless a quotient does not fit.
-pub(crate) fn divided<W: Width>(
-    alloc: Global,
-    sum: &Sum<'_>,
-    divisor: i128,
-) -> Result<Vec<Entry>, RowStop>
-    requires rising { HasRisingRows sum.now }
-    requires holds { W.Holds sum.now }
+pub(crate) fn divided(alloc: Global, sum: &Sum<'_>, divisor: i128) -> Result<Vec<Entry>, RowStop>
+    requires sum { CanBeAdded sum.now }
     requires divisor { IsDivisor divisor (whole sum.now) }
     ensures value { IfOk result (λ out. IsReduced out.items (whole sum.now)) }
     ensures kept { IfOk result (λ out. IsKeptRow out.items) }
@@ -88,7 +83,7 @@ pub(crate) fn divided<W: Width>(
 {
     let mut out = Vec::with_capacity(alloc, sum.r.len() + sum.p.len())?;
     let mut at = start(sum);
-    while let Some(read) = W::next(sum, at) {
+    while let Some(read) = read_wide(sum, at) {
         keep(&mut out, read.col, read.by, divisor)?;
         at = read.next;
     }

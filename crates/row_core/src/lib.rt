@@ -13,13 +13,15 @@
 //! the pivot's own.
 //!
 //! To read: `entry` (columns and entries), `row` (rows and their combinations), `walk` (the columns of two
-//! rows from the lowest up), `divide` (the division of a sum by its divisor).
+//! rows from the lowest up), `gather` (the numbers of a sum in one pass), `divide` (their division by what
+//! they have in common).
 //!
 //! Invariant: the columns of a row rise, its numbers are not 0, fit, and have no common divisor but 1.
 #![tactic(auto)]
 
 mod divide;
 mod entry;
+mod gather;
 mod row;
 mod walk;
 

@@ -6,12 +6,14 @@ ghost use Rattle.frac_core.specs.Fraction.{IsFitting};
 ghost use Rattle.row_core.specs.Rows.{IsRising, AllFit, IsKeptRow, IsReduced, IsUnfit, coefficient};
 ghost use Rattle.row_core.specs.Rows.{combination};
 ghost use Rattle.row_core.specs.Combinations.{IsFactor, combination_but};
-ghost use Rattle.row_core.specs.Walks.{CanBeAdded, HasSmallProducts, IsNarrowSum, whole};
+ghost use Rattle.row_core.specs.Walks.{CanBeAdded, HasNarrowProducts, HasSmallProducts};
+ghost use Rattle.row_core.specs.Walks.{IsNarrowSum, whole};
 ghost use Rattle.frac_core.specs.Stops.{IsRefused};
 
 use crate::divide::{divided, divisor_of};
 use crate::entry::{Col, Entry, Factors, Patch, RowStop};
-use crate::walk::{NARROW_FACTOR, NARROW_PRODUCT, Narrow, Sum, Wide, Width, patched, plain};
+use crate::gather::{Tally, gathered};
+use crate::walk::{NARROW_FACTOR, NARROW_PRODUCT, Sum, patched, plain};
 use frac_core::OutOfMemory;
 use std::alloc::Global;
 use std::marker::Model;
@@ -34,15 +36,45 @@ impl Model for IntRow {
 }
 
 // The row in lowest terms with the coefficients of the sum.
-fn lowest<W: Width>(alloc: Global, sum: &Sum<'_>) -> Result<IntRow, RowStop>
-    requires sum { CanBeAdded sum.now }
-    requires holds { W.Holds sum.now }
+fn lowest(alloc: Global, sum: &Sum<'_>) -> Result<IntRow, RowStop>
+    requires { CanBeAdded sum.now }
     ensures value { IfOk result (λ row. IsReduced row (whole sum.now)) }
     ensures kept { IfOk result IsKeptRow }
     ensures unfit { IfErr result (λ stop. IsRefused stop → IsUnfit (whole sum.now)) }
 {
     let divisor = divisor_of(sum);
-    let entries = divided::<W>(alloc, sum, divisor)?;
+    let entries = divided(alloc, sum, divisor)?;
+    Ok(IntRow { entries })
+}
+
+// What a sum's numbers are to be divided by.
+fn divisor_in(tally: Tally) -> i128
+    ensures some { 0 < tally.divisor → result ≡ pos tally.divisor }
+    ensures none { tally.divisor ≡ 0 → result ≡ pos 1 }
+{
+    if tally.divisor == 0 {
+        1
+    } else {
+        i128::from(tally.divisor)
+    }
+}
+
+// The row in lowest terms with the coefficients of a sum of 64 bits, which it writes in one pass and divides
+// only where it must.
+fn quick(alloc: Global, sum: &Sum<'_>) -> Result<IntRow, RowStop>
+    requires sum { CanBeAdded sum.now }
+    requires narrow { HasNarrowProducts sum.now }
+    ensures value { IfOk result (λ row. IsReduced row (whole sum.now)) }
+    ensures kept { IfOk result IsKeptRow }
+    ensures unfit { IfErr result (λ stop. IsRefused stop → IsUnfit (whole sum.now)) }
+{
+    let made = gathered(alloc, sum)?;
+    if made.tally.is_lowest() {
+        return Ok(IntRow {
+            entries: made.entries,
+        });
+    }
+    let entries = divided(alloc, sum, divisor_in(made.tally))?;
     Ok(IntRow { entries })
 }
 
@@ -65,9 +97,9 @@ fn combined(alloc: Global, sum: &Sum<'_>) -> Result<IntRow, RowStop>
     ensures unfit { IfErr result (λ stop. IsRefused stop → IsUnfit (whole sum.now)) }
 {
     if is_narrow(sum) {
-        lowest::<Narrow>(alloc, sum)
+        quick(alloc, sum)
     } else {
-        lowest::<Wide>(alloc, sum)
+        lowest(alloc, sum)
     }
 }
 
@@ -153,7 +185,7 @@ impl IntRow {
         ensures kept { IfOk result IsKeptRow }
         ensures unfit { IfErr result (λ stop. IsRefused stop → IsUnfit (λ c. coefficient c entries.now)) }
     {
-        lowest::<Wide>(alloc, &plain(entries, &[], Factors { k: 1, n: 0 }))
+        lowest(alloc, &plain(entries, &[], Factors { k: 1, n: 0 }))
     }
 
     /// The number at a column, which is 0 where the row has none.

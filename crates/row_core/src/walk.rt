@@ -1,12 +1,14 @@
 // The columns of two rows, from the lowest up.
 ghost use Rattle.std.specs.Prelude.{◌≡◌, ℕ, ℤ, true, false, ◌&&◌, nat_eq, ◌+◌, ◌-◌, ◌<◌, ◌≤◌, ◌^◌};
-ghost use Rattle.std.specs.Prelude.{◌*ℤ◌, ◌+ℤ◌, pos, unsigned_abs, length, IfSome, IfNone, ◌⊎◌};
+ghost use Rattle.std.specs.Prelude.{◌*ℤ◌, ◌+ℤ◌, pos, unsigned_abs, length, IfSome, IfNone, ◌⊎◌, FitsSigned};
+ghost use Rattle.std.specs.Int.{w64};
 ghost use Rattle.frac_core.specs.Fraction.{IsFitting};
 ghost use Rattle.row_core.specs.Rows.{IsRising, AllFit, coefficient};
 ghost use Rattle.row_core.specs.Combinations.{IsFactor};
-ghost use Rattle.row_core.specs.Walks.{IsSmallProduct, IsFactorOf, HasSmallProducts, HasNext, alone};
-ghost use Rattle.row_core.specs.Walks.{IsRowRead, IsSumRead, IsReading, IsNarrow, IsNarrowSum, IsRead, IsEnd};
-ghost use Rattle.row_core.specs.Walks.{HasNarrowProducts, HasRisingRows, IsPlaceOf, column_at, whole_of};
+ghost use Rattle.row_core.specs.Walks.{IsSmallProduct, HasSmallProducts, HasNext, IsLowestOf, alone};
+ghost use Rattle.row_core.specs.Walks.{from_left, from_right, from_both};
+ghost use Rattle.row_core.specs.Walks.{IsRowRead, IsSumRead, IsReading, IsNarrow, IsNarrowSum, IsEnd};
+ghost use Rattle.row_core.specs.Walks.{HasNarrowProducts, IsPlaceOf, whole_of};
 ghost use Rattle.row_core.specs.declared.walk.TheConstants.{NARROW_PRODUCT};
 
 use crate::entry::{Col, Entry, Factors, Patch};
@@ -95,36 +97,6 @@ pub(crate) fn start(sum: &Sum<'_>) -> Place
     }
 }
 
-// What a row has at a column, and how many of its entries have been read then.
-#[derive(Clone, Copy, Debug, PartialEq, Eq)]
-struct There {
-    by: i64,
-    next: usize,
-}
-
-// Reads the row at the column.
-fn read_row(row: &[Entry], i: usize, col: u64) -> There
-    requires rising { IsRising row.now }
-    requires first { i < length row.now → col ≤ column_at row.now i }
-    ensures value { (floor : ℕ) → IsRead row.now i floor → floor ≤ col → result.by ≡ coefficient col row.now }
-    ensures read { (floor : ℕ) → IsRead row.now i floor → floor ≤ col → IsRead row.now result.next (col + 1) }
-    ensures small { (k : ℤ) → IsFactorOf k row.now → IsSmallProduct k result.by }
-    ensures fits { AllFit row.now → IsFitting result.by }
-    ensures further { i ≤ result.next }
-    ensures here { i < length row.now → col ≡ column_at row.now i → i < result.next }
-{
-    if i < row.len() {
-        let e = row[i];
-        if e.col.0 == col {
-            return There {
-                by: e.by,
-                next: i + 1,
-            };
-        }
-    }
-    There { by: 0, next: i }
-}
-
 /// What two rows have at a column, and what has been read then.
 #[derive(Clone, Copy, Debug, PartialEq, Eq)]
 pub(crate) struct RowsRead {
@@ -134,31 +106,76 @@ pub(crate) struct RowsRead {
     pub next: Place,
 }
 
-// Reads the two rows at their lowest column.
-fn read_rows(sum: &Sum<'_>, at: Place, col: u64) -> RowsRead
-    requires rising { HasRisingRows sum.now }
-    requires left { at.left < length sum.now.r.now → col ≤ column_at sum.now.r.now at.left }
-    requires right { at.right < length sum.now.p.now → col ≤ column_at sum.now.p.now at.right }
-    ensures col { result.col ≡ col }
-    ensures left { IsRowRead sum.now.r.now at.left col result.left result.next.left }
-    ensures right { IsRowRead sum.now.p.now at.right col result.right result.next.right }
-    ensures added { result.next.is_added ≡ at.is_added }
+// The first row's next entry, where the second has none at its column.
+fn left_only(at: Place, entry: Entry) -> RowsRead
+    requires { at.left < 2 ^ 63 }
+    ensures { result ≡ from_left at entry }
 {
-    let left = read_row(sum.r, at.left, col);
-    let right = read_row(sum.p, at.right, col);
     RowsRead {
-        col,
-        left: left.by,
-        right: right.by,
+        col: entry.col.0,
+        left: entry.by,
+        right: 0,
         next: Place {
-            left: left.next,
-            right: right.next,
+            left: at.left + 1,
+            right: at.right,
             is_added: at.is_added,
         },
     }
 }
 
-// Reads the two rows at the lowest column that has not been read, unless there is none.
+// The second row's next entry, where the first has none at its column.
+fn right_only(at: Place, entry: Entry) -> RowsRead
+    requires { at.right < 2 ^ 63 }
+    ensures { result ≡ from_right at entry }
+{
+    RowsRead {
+        col: entry.col.0,
+        left: 0,
+        right: entry.by,
+        next: Place {
+            left: at.left,
+            right: at.right + 1,
+            is_added: at.is_added,
+        },
+    }
+}
+
+// The next entries of both rows, which are at one column.
+fn one_of_each(at: Place, left: Entry, right: Entry) -> RowsRead
+    requires left { at.left < 2 ^ 63 }
+    requires right { at.right < 2 ^ 63 }
+    ensures { result ≡ from_both at left right }
+{
+    RowsRead {
+        col: left.col.0,
+        left: left.by,
+        right: right.by,
+        next: Place {
+            left: at.left + 1,
+            right: at.right + 1,
+            is_added: at.is_added,
+        },
+    }
+}
+
+// The next entries of both rows, or the one that is below the other.
+fn lowest_of(at: Place, left: Entry, right: Entry) -> RowsRead
+    requires left { at.left < 2 ^ 63 }
+    requires right { at.right < 2 ^ 63 }
+    ensures { IsLowestOf at left right result }
+{
+    if left.col.0 < right.col.0 {
+        left_only(at, left)
+    } else if right.col.0 < left.col.0 {
+        right_only(at, right)
+    } else {
+        one_of_each(at, left, right)
+    }
+}
+
+// Reads the two rows at the lowest column that has not been read, unless there is none. As below, its callers
+// keep the place in registers where this is inlined.
+#[inline(always)]
 fn next_of_rows(sum: &Sum<'_>, at: Place) -> Option<RowsRead>
     requires { IsPlaceOf sum.now at }
     ensures left { IfSome result (λ x. IsRowRead sum.now.r.now at.left x.col x.left x.next.left) }
@@ -174,18 +191,14 @@ fn next_of_rows(sum: &Sum<'_>, at: Place) -> Option<RowsRead>
             return None;
         }
         let right = sum.p[at.right];
-        return Some(read_rows(sum, at, right.col.0));
+        return Some(right_only(at, right));
     }
     let left = sum.r[at.left];
     if at.right == sum.p.len() {
-        return Some(read_rows(sum, at, left.col.0));
+        return Some(left_only(at, left));
     }
     let right = sum.p[at.right];
-    if right.col.0 < left.col.0 {
-        Some(read_rows(sum, at, right.col.0))
-    } else {
-        Some(read_rows(sum, at, left.col.0))
-    }
+    Some(lowest_of(at, left, right))
 }
 
 // What has been read of the two rows when the number at one column is added before their next one.
@@ -345,49 +358,35 @@ pub(crate) struct Reading {
     pub next: Place,
 }
 
-/// The width in which a sum's numbers are made.
-pub(crate) trait Width {
-    ghost use Rattle.row_core.specs.declared.walk.Sum.{Sum};
-
-    ghost Holds: { Sum → Type 0 };
-
-    /// Reads the sum at the lowest column that has not been read, unless there is none.
-    fn next(sum: &Sum<'_>, at: Place) -> Option<Reading>
-        requires place { IsPlaceOf sum.now at }
-        requires holds { Holds sum.now }
-        ensures read { IfSome result (IsReading sum.now at) }
-        ensures small { IfSome result (λ x. unsigned_abs x.by < 2 ^ 127) }
-        ensures end { IfNone result (IsEnd sum.now at) };
+/// Reads the sum at the lowest column that has not been read, unless there is none, in 128 bits.
+pub(crate) fn read_wide(sum: &Sum<'_>, at: Place) -> Option<Reading>
+    requires place { IsPlaceOf sum.now at }
+    requires products { HasSmallProducts sum.now }
+    ensures read { IfSome result (IsReading sum.now at) }
+    ensures small { IfSome result (λ x. unsigned_abs x.by < 2 ^ 127) }
+    ensures end { IfNone result (IsEnd sum.now at) }
+{
+    let read = next_of_both(sum, at)?;
+    Some(Reading {
+        col: read.col,
+        by: total(sum, read.left, read.right, read.col),
+        next: read.next,
+    })
 }
 
-/// 128 bits, which hold the numbers of every sum.
-pub(crate) struct Wide;
-
-impl Width for Wide {
-    ghost Holds = { HasSmallProducts };
-
-    fn next(sum: &Sum<'_>, at: Place) -> Option<Reading> {
-        let read = next_of_both(sum, at)?;
-        Some(Reading {
-            col: read.col,
-            by: total(sum, read.left, read.right, read.col),
-            next: read.next,
-        })
-    }
-}
-
-/// 64 bits, which are faster.
-pub(crate) struct Narrow;
-
-impl Width for Narrow {
-    ghost Holds = { HasNarrowProducts };
-
-    fn next(sum: &Sum<'_>, at: Place) -> Option<Reading> {
-        let read = next_of_both(sum, at)?;
-        Some(Reading {
-            col: read.col,
-            by: i128::from(narrow_total(sum, read.left, read.right, read.col)),
-            next: read.next,
-        })
-    }
+/// The same in 64 bits, which are faster.
+pub(crate) fn read_narrow(sum: &Sum<'_>, at: Place) -> Option<Reading>
+    requires place { IsPlaceOf sum.now at }
+    requires products { HasNarrowProducts sum.now }
+    ensures read { IfSome result (IsReading sum.now at) }
+    ensures small { IfSome result (λ x. unsigned_abs x.by < 2 ^ 127) }
+    ensures narrow { IfSome result (λ x. FitsSigned w64 x.by) }
+    ensures end { IfNone result (IsEnd sum.now at) }
+{
+    let read = next_of_both(sum, at)?;
+    Some(Reading {
+        col: read.col,
+        by: i128::from(narrow_total(sum, read.left, read.right, read.col)),
+        next: read.next,
+    })
 }

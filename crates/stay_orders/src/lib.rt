@@ -11,8 +11,8 @@
 //! The laws say what such an order leaves as it is, each the contract of a function that does nothing: what
 //! stands at marks, a corner, and what a priority level costs do not see it, and where the stays stand at the
 //! best values, these stay the best. What it changes is which of two attributes gives way once a row moves
-//! one of them ([`keep_decides`]), and so which columns are negative: of those that cost nothing at a stay that
-//! has come first, none turns ([`only_fronted_turn`]).
+//! one of them ([`keep_decides`]), and so which columns are negative: of those that cost nothing at a stay
+//! that has come first, none turns ([`only_fronted_turn`]).
 //!
 //! The words are `with_front`, of a list of stays, and `fronted`, of a problem (`specs/Orders.antt`).
 //!

@@ -15,6 +15,8 @@
 //! | `edit` | a clone of the element where it was not written since the mark, and else constant |
 //! | `mark`, `forget` | constant, beside dropping the log of the version that is forgotten |
 //! | `back` | what was put, pushed and removed since the mark |
+//! | `was` | constant, and else what was put and removed since the mark, if anything was removed |
+//! | `written` | what was put and pushed since the mark, or the whole list, if anything was removed |
 //!
 //! ```
 //! let mut names = VersionList::new(alloc)?;
@@ -23,13 +25,15 @@
 //! names.put(0, "b")?;
 //! names.push("c")?;   // now "b", "c"
 //! names.remove(0)?;   // now "c"
+//! names.was(0);       // "a"
 //! names.back();       // now "a"
 //! ```
 //!
 //! What the type keeps (`IsSound` in `specs/Undo.antt`): from the elements of now the logs of the marks, the
 //! newest first, give each earlier version.
 //!
-//! To read: `log` has elements with their slots and the log of one mark, and this file the list.
+//! To read: `log` has elements with their slots and the log of one mark, this file the list, and `since` what
+//! is read of the newest mark.
 #![tactic(auto)]
 
 ghost use Rattle.std.specs.Borrow.{sem};
@@ -38,6 +42,7 @@ ghost use Rattle.std.specs.Prelude.{OnErr, slice_get, slice_set, slice_index_or}
 ghost use Rattle.std.specs.List.{remove};
 
 mod log;
+mod since;
 
 use frac_core::OutOfMemory;
 use log::{Log, Slotted, empty_log, is_kept, is_past, own, replace_at, restore, take_out};
@@ -134,6 +139,23 @@ impl<T> VersionList<T> {
 }
 
 impl<T: Drop> VersionList<T> {
+    /// The same as `new` with memory for so many elements.
+    pub fn with_room(alloc: Global, room: usize) -> Result<VersionList<T>, OutOfMemory>
+        ensures { IfOk result (λ list. list ≡ record { items = []; before = [] }) }
+    {
+        let logs = VecDeque::with_capacity(alloc, VERSION_LIMIT)?;
+        let list = Slotted {
+            items: Vec::with_capacity(alloc, room)?,
+            slots: Vec::with_capacity(alloc, room)?,
+        };
+        Ok(VersionList {
+            list,
+            logs,
+            spare: None,
+            alloc,
+        })
+    }
+
     /// Puts a value in the place of an element. After want of memory the list is as before.
     pub fn put(&mut self, i: usize, value: T) -> Result<(), OutOfMemory>
         requires { i < length self.old.items }

@@ -52,7 +52,7 @@ pub struct Replaced<T> {
 
 impl<T> Log<T> {
     // Whether the log has the element that place `at` had at the mark, if only its `slot` can have it.
-    fn has(&self, at: usize, slot: usize) -> bool
+    pub fn has(&self, at: usize, slot: usize) -> bool
         ensures { IsTrue result ↔ HasAt self.now.replaced.items slot at }
     {
         self.replaced

@@ -18,7 +18,7 @@ use Rattle.problem_core.proofs.GapFacts.GapSigns.{same-order, gap-over}
 use Rattle.problem_core.proofs.Best.Duality.{certificate-IsBest}
 use Rattle.problem_core.proofs.Wholes.{whole-IsProblem}
 use Rattle.cert_core.specs.declared.by.By.{By}
-use Rattle.cert_core.specs.Claims.{BestLevel, IsLevel, IsPlace, AreLevels, level_at, multipliers_of, bys_of, scale_of, times_of}
+use Rattle.cert_core.specs.Claims.{BestLevel, IsLevel, IsRanked, AreLevels, level_at, multipliers_of, bys_of, scale_of, times_of}
 use Rattle.cert_checker.specs.declared.leveled.PlacedLevel.{PlacedLevel}
 use Rattle.cert_checker.specs.declared.verdict.Verdict.{Verdict}
 use Rattle.cert_checker.specs.declared.verdict.Verdict.TheVariants.{Yes}
@@ -73,7 +73,7 @@ stay-signed p x at s o l m is e d =
 
 -- ---- levels
 
-level-held : (p : Problem) (level : Level) → IsPlace level → HasLevel p level → (k : ℕ) × (level_at p k ≡ level)
+level-held : (p : Problem) (level : Level) → IsRanked level → HasLevel p level → (k : ℕ) × (level_at p k ≡ level)
 level-held p (Priority rank) place has = (1000 - rank, priority-level p rank place)
 level-held p (StayLevel attr) place (k, s, l, is, e) =
     (1001 + k, stay-level p k ∙ ap StayLevel (get_or-map (λ (s : Stay). s.attr) p.stays k s 0 l ∙ ap (λ (s : Stay). s.attr) is ∙ e))
@@ -85,7 +85,7 @@ balances-each p levels ok b i d l = record {
   rows = b.rows_held i d l;
   cancel = λ v.
       let kept : IsLevel (get_or levels i d) = ok.each i d l in
-      let (k, e) = level-held p (get_or levels i d).level kept.place (b.levels_held i d l) in
+      let (k, e) = level-held p (get_or levels i d).level kept.ranked (b.levels_held i d l) in
       let bys : bys_of levels (level_at p k) ≡ (get_or levels i d).by = ap (bys_of levels) e ∙ (found-level levels i d l (λ j k d m n. ok.apart j k d m n)).1 in
       subst (λ (bys : List By). sum_of (λ n. times_of bys n.name *ℤ coefficient v n.form) (lines p) ≡ pos 0) bys (b.cancel k v);
 }

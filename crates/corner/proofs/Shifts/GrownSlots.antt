@@ -19,7 +19,7 @@ use Rattle.corner_table.specs.declared.table.TheConstants.{LEVELS}
 use Rattle.corner_exchange.specs.Swaps.Exchanges.{IsWhatOf, IsWhatAt}
 use Rattle.corner_table.specs.Kept.{AreSlots, IsAttrRow, IsKept, IsLineRow, IsOwned, IsSlot, level_own}
 use Rattle.corner.specs.Shifts.Shifting.{CanGrow, IsThere, over_at, sign_at, sign_there}
-use Rattle.corner_table.specs.Tables.{Lists, attr_slot, entry, line_slot, priority_at, problem_of, sign_of_what, slot_at, standing_at}
+use Rattle.corner_table.specs.Tables.{Lists, attr_slot, entry, line_slot, priority_at, problem_of, slot_at, standing_at}
 use Rattle.corner_table.proofs.Readings.KeptFacts.{entry_fits}
 use Rattle.corner_exchange.proofs.Pivots.LevelCosts.{minus_sign, scale_above, scale_fits}
 use Rattle.corner_writings.proofs.LevelFacts.LevelReadFacts.{fitting_cost}
@@ -33,15 +33,6 @@ use Rattle.corner_writings.proofs.Basics.OwnerFacts.{line-owned}
 use Rattle.corner_table.proofs.Readings.SlotFacts.{any_is}
 
 -- ---- what is at the slot
-
-sign-there : (o : Owner) (i : Option Side) (what : What) → IsWhatOf o i what → sign_of_what what ≡ sign_there o i
-sign-there LevelSlot i what is = absurd is
-sign-there (AttrSlot attr) i what is = ap sign_of_what is
-sign-there (LineSlot name) None what is = absurd is
-sign-there (LineSlot name) (Some side) what is = ap sign_of_what is
-
-pub what_sign_at : (t : Lists) (w : ℕ) (what : What) → IsWhatAt t w what → sign_of_what what ≡ sign_at t w
-what_sign_at t w what is = sign-there (slot_at t w).owner (standing_at t w).side what is
 
 pub level_sign_at : (t : Lists) (w : ℕ) → AreSlots t → w < LEVELS → sign_at t w ≡ pos 1
 level_sign_at t w slots low = ap (λ (o : Owner). sign_there o (standing_at t w).side) (slots.level_owners w low)
@@ -106,9 +97,9 @@ level_scale t w own unit own-fits unit-fits own-is unit-is low grows =
 pub level_number : (t : Lists) (w line : ℕ) (n number : ℤ) → AreSlots t → w < LEVELS → n ≡ neg_ℤ number → number ≡ entry t w line → n ≡ neg_ℤ (sign_at t w *ℤ entry t w line)
 level_number t w line n number slots low is there = is ∙ ap neg_ℤ there ∙ plain_number (entry t w line) (sign_at t w) (level_sign_at t w slots low)
 
-pub value_number : (t : Lists) (w line : ℕ) (what : What) (n number sign : ℤ) → IsWhatAt t w what → n ≡ (number *ℤ negsuc 0) *ℤ sign → number ≡ entry t w line → sign ≡ sign_of_what what → n ≡ neg_ℤ (sign_at t w *ℤ entry t w line)
-value_number t w line what n number sign at is there signed =
-    is ∙ ap₂ (λ (x y : ℤ). (x *ℤ negsuc 0) *ℤ y) there signed ∙ signed_number (entry t w line) (sign_of_what what) (sign_at t w) (what_sign_at t w what at)
+pub value_number : (t : Lists) (w line : ℕ) (n number sign : ℤ) → n ≡ (number *ℤ negsuc 0) *ℤ sign → number ≡ entry t w line → sign ≡ sign_at t w → n ≡ neg_ℤ (sign_at t w *ℤ entry t w line)
+value_number t w line n number sign is there signed =
+    is ∙ ap (λ (x : ℤ). (x *ℤ negsuc 0) *ℤ sign) there ∙ signed_number (entry t w line) sign (sign_at t w) signed
 
 pub growth_is : (a b : Growth) → a.n ≡ b.n → a.d ≡ b.d → a ≡ b
 growth_is a b n d = ap₂ (λ (x y : ℤ). growth x y) n d

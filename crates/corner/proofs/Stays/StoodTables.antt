@@ -1,5 +1,6 @@
 -- The tables while the stays move, and what is seen of them then.
-use Rattle.std.proofs.Common.{◌≡◌, ◌∙◌, ℕ, ◌+◌, ◌<◌, List, map, length, refl, sym, ap, subst, inl, inr, pos, slice_index_or, All, Contains}
+use Rattle.std.proofs.Common.{◌≡◌, ◌∙◌, ℕ, zero, suc, ◌+◌, ◌-◌, ◌<◌, ◌≤◌, arith, List, map, length, refl, sym, ap, subst, inl, inr, pos, slice_index_or, All, Contains}
+use Rattle.std.proofs.lemmas.List.{get_or_default}
 use Rattle.problem_core.specs.Window.{zero_fraction}
 use Rattle.problem_core.specs.declared.parts.Mark.{Mark}
 use Rattle.problem_core.specs.declared.parts.Stay.{Stay}
@@ -13,7 +14,7 @@ use Rattle.corner_table.specs.Tables.{Lists, lists_of, marks_at, problem_of, sta
 use Rattle.corner_table.specs.Kept.{AreSlots, IsKept, IsSlot}
 use Rattle.corner_table.specs.Histories.{HasSameHistory}
 use Rattle.corner_table.specs.Invariants.{IsConsistent, IsEarlier, names_of, view_of}
-use Rattle.corner.specs.Shifts.Stood.{AreFirstStood, IsStoodAt, stay_slot, with_moved, with_present}
+use Rattle.corner.specs.Shifts.Stood.{AreFirstStood, IsAtRest, IsStoodAt, stay_slot, with_moved, with_present}
 use Rattle.corner.proofs.Attributes.CornerAttrs.{alike_same, past_same}
 use Rattle.corner.proofs.Stays.StoodColumns.{negative_seen}
 use Rattle.corner.proofs.Stays.StoodKept.{attr_same, first_slots, have_stood, named_after, seen_alike, stood_kept, stood_marks}
@@ -44,6 +45,46 @@ next_stood n t u v kept within h (attr, is, inr moved) =
     let own = next_attr n attr t u r within h (is r) in
     subst (AreFirstStood (n + 1) t) (sym (moved ∙ ap (λ (w : Lists). with_present w n attr) h.0))
     (refl, one_moves t n attr u.stays u.standings r kept within own h.1)
+
+pub none_stood : (t : Lists) → IsKept t → AreFirstStood 0 t t
+none_stood t kept = (
+  refl,
+  record {
+    stay_count = refl;
+    first = λ i s lt within. absurd (omega (arith, lt));
+    later = λ i s from. refl;
+    standing_count = refl;
+    sides = λ w. refl;
+    cleared = λ i s lt within. absurd (omega (arith, lt));
+    others = λ w never. refl;
+    values = kept.values;
+  },
+)
+
+next_rests : (n : ℕ) (t u : Lists) → IsKept t → n < length t.stays → n < length u.stays → AreFirstStood n t u → IsAtRest u n → AreFirstStood (n + 1) t u
+next_rests n t u kept within there h rest =
+    let r : Stay = record { attr = 0; target = zero_fraction } in
+    next_stood n t u u kept within h (
+      (slice_index_or u.stays n r).attr,
+      (λ s. ap (λ (x : Stay). x.attr) (get_or_default u.stays n s r there)),
+      inl (rest r, refl),
+    )
+
+-- those from n on that stand at their targets
+pub more_rest : (m n : ℕ) (t u : Lists) → IsKept t → n + m ≤ length t.stays → AreFirstStood n t u → ((i : ℕ) → n ≤ i → i < n + m → IsAtRest u i) → AreFirstStood (n + m) t u
+more_rest zero n t u kept within h rest = subst (λ (k : ℕ). AreFirstStood k t u) (omega arith) h
+more_rest (suc m) n t u kept within h rest =
+    let some : n < length t.stays = omega (arith, within) in
+    let there : n < length u.stays = subst (λ (k : ℕ). n < k) (sym h.1.stay_count) some in
+    let next = next_rests n t u kept some there h (rest n (omega arith) (omega arith)) in
+    subst (λ (k : ℕ). AreFirstStood k t u) (omega arith)
+    (more_rest m (n + 1) t u kept (omega (arith, within)) next (λ i from to. rest i (omega (arith, from)) (omega (arith, to))))
+
+pub all_rest : (n m : ℕ) (t u : Lists) → IsKept t → n ≤ m → m ≤ length t.stays → AreFirstStood n t u → ((i : ℕ) → n ≤ i → i < m → IsAtRest u i) → AreFirstStood m t u
+all_rest n m t u kept from most h rest =
+    let sum : n + (m - n) ≡ m = omega (arith, from) in
+    subst (λ (k : ℕ). AreFirstStood k t u) sum
+    (more_rest (m - n) n t u kept (omega (arith, sum, most)) h (λ i low lt. rest i low (omega (arith, lt, sum))))
 
 -- ---- what is seen
 

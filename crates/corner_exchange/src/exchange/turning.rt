@@ -172,6 +172,25 @@ fn put_turned(
     Ok(())
 }
 
+/// Turns a line to this side, and lists no line.
+pub fn turn_unlisted(
+    table: &mut Table,
+    line: u32,
+    side: Side,
+    change: Option<Change>,
+) -> Result<(), OutOfMemory>
+    requires turn { CanTurnTo (lists_of table.old) line side }
+    requires change { IsTurnBy (lists_of table.old) line side change }
+    ensures lists { OnOk result (lists_of table.new
+        ≡ exchanges.turned_lists (lists_of table.old) line side change) }
+    ensures kept { OnOk result (IsKept (lists_of table.new)) }
+    ensures marks { OnOk result (AreMarksTurned (lists_of table.old) line side (lists_of table.new)) }
+    ensures before { lists_before table.new ≡ lists_before table.old }
+    ensures alike { AreAlike table.old → AreAlike table.new }
+{
+    put_turned(table, line, side, change)
+}
+
 /// Turns a line to this side.
 pub fn put_turn(
     table: &mut Table,

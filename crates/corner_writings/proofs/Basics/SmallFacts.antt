@@ -1,5 +1,5 @@
 -- Sides, numbers and lists.
-use Rattle.std.proofs.Common.{◌≡◌, ◌≢◌, ℕ, zero, suc, true, List, [], ◌∷◌, refl, ap, subst, arith, ℤ, pos, negsuc, unsigned_abs, All, Any, Contains}
+use Rattle.std.proofs.Common.{◌≡◌, ◌≢◌, ℕ, zero, suc, true, List, ◌∷◌, refl, ap, subst, arith, ℤ, pos, negsuc, unsigned_abs, All, Any, Contains}
 use Rattle.problem_core.specs.declared.parts.Side.{Side}
 use Rattle.problem_core.specs.declared.parts.Side.TheVariants.{Under, Over}
 use Rattle.corner_table.specs.Tables.{same_side}

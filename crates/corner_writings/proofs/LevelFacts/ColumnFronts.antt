@@ -1,5 +1,5 @@
 -- The strongest level of a column, found slot by slot.
-use Rattle.std.proofs.Common.{◌≡◌, ◌≢◌, ◌∙◌, ◌⊎◌, ℕ, ◌+◌, ◌<◌, ◌≤◌, Bool, true, false, List, length, slice_index_or, refl, sym, ap, subst, arith, inl, inr, pos, AllPairs, Contains, Some, None, IfSome, IfNone}
+use Rattle.std.proofs.Common.{◌≡◌, ◌≢◌, ◌⊎◌, ℕ, ◌+◌, ◌<◌, ◌≤◌, Bool, true, false, List, length, slice_index_or, refl, ap, subst, arith, inl, inr, pos, AllPairs, Contains, Some, None, IfSome, IfNone}
 use Rattle.std.specs.declared.option.Option.{Option}
 use Rattle.std.proofs.lemmas.Bool.{cases_eq, cases_lt}
 use Rattle.problem_core.specs.declared.parts.Side.{Side}
@@ -106,16 +106,16 @@ stay-high t m kept h =
     subst (λ (w : ℕ). LEVELS ≤ rank_of t w) owned.1 high
 
 -- a stronger level has a lower slot
-lower-slot : (t : Lists) (l m : ℕ) → IsKept t → HasCost t l → HasCost t m → (l < LEVELS) ⊎ (OWN_RANK ≤ rank_of t l) → rank_of t m < rank_of t l → m < l
-lower-slot t l m kept (inl low) (inl level) ends less = let a = kept.slots.level_ranks l low in let b = kept.slots.level_ranks m level in omega (arith, a, b, less)
-lower-slot t l m kept (inl low) (inr stay) ends less = let a = kept.slots.level_ranks l low in let high = stay-high t m kept stay in absurd (omega (arith, a, high, less, low))
-lower-slot t l m kept (inr here) (inl level) (inl low) less = let a = kept.slots.level_ranks l low in let b = kept.slots.level_ranks m level in omega (arith, a, b, less)
-lower-slot t l m kept (inr here) (inl level) (inr own) less = elim (cases_lt l LEVELS) [
+pub lower_slot : (t : Lists) (l m : ℕ) → IsKept t → HasCost t l → HasCost t m → (l < LEVELS) ⊎ (OWN_RANK ≤ rank_of t l) → rank_of t m < rank_of t l → m < l
+lower_slot t l m kept (inl low) (inl level) ends less = let a = kept.slots.level_ranks l low in let b = kept.slots.level_ranks m level in omega (arith, a, b, less)
+lower_slot t l m kept (inl low) (inr stay) ends less = let a = kept.slots.level_ranks l low in let high = stay-high t m kept stay in absurd (omega (arith, a, high, less, low))
+lower_slot t l m kept (inr here) (inl level) (inl low) less = let a = kept.slots.level_ranks l low in let b = kept.slots.level_ranks m level in omega (arith, a, b, less)
+lower_slot t l m kept (inr here) (inl level) (inr own) less = elim (cases_lt l LEVELS) [
   | inl low ↦ let a = kept.slots.level_ranks l low in absurd (omega (arith, a, own, low))
   | inr above ↦ omega (arith, above, level)
 ]
-lower-slot t l m kept (inr here) (inr stay) (inl low) less = let a = kept.slots.level_ranks l low in let high = stay-high t m kept stay in absurd (omega (arith, a, high, less, low))
-lower-slot t l m kept (inr here) (inr stay) (inr own) less = elim (cases_lt m l) [
+lower_slot t l m kept (inr here) (inr stay) (inl low) less = let a = kept.slots.level_ranks l low in let high = stay-high t m kept stay in absurd (omega (arith, a, high, less, low))
+lower_slot t l m kept (inr here) (inr stay) (inr own) less = elim (cases_lt m l) [
   | inl before ↦ before
   | inr le ↦ elim (cases_eq l m) [
     | inl e ↦ let same : rank_of t l ≡ rank_of t m = ap (rank_of t) e in absurd (omega (arith, same, less))
@@ -136,9 +136,9 @@ ends_first t line side xs n found kept rising within in-column h less ends here 
     before : (found : Option ℕ) → IsBestSoFar t line side xs n found → IfSome found (λ best. rank_of t (slice_index_or xs n 0) < rank_of t best)
         → (m : ℕ) → rank_of t m < rank_of t (slice_index_or xs n 0) → Contains xs m → HasReducedAt t line side m → ⊥
     before None h less m lower has there =
-        before_in (HasReducedAt t line side) xs n m rising within (lower-slot t (slice_index_or xs n 0) m kept here.0 there.0 ends lower) has h.1 there
+        before_in (HasReducedAt t line side) xs n m rising within (lower_slot t (slice_index_or xs n 0) m kept here.0 there.0 ends lower) has h.1 there
     before (Some best) h less m lower has there =
-        before_in (λ w. (rank_of t w < rank_of t best) × HasReducedAt t line side w) xs n m rising within (lower-slot t (slice_index_or xs n 0) m kept here.0 there.0 ends lower) has (λ j lt k. h.0.3 j lt k.0 k.1) (omega (arith, lower, less), there)
+        before_in (λ w. (rank_of t w < rank_of t best) × HasReducedAt t line side w) xs n m rising within (lower_slot t (slice_index_or xs n 0) m kept here.0 there.0 ends lower) has (λ j lt k. h.0.3 j lt k.0 k.1) (omega (arith, lower, less), there)
 
 -- ---- all slots
 

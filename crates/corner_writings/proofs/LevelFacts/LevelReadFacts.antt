@@ -161,6 +161,19 @@ reduced_elsewhere t l w side h =
     ap (λ (b : Bool). cond b (own_cost t (slot_at t w) side) (pos 0) +ℤ sign_of side *ℤ times_at t l w) (ne_eqb (slot_at t w).home l h)
     ∙ (let z : ℤ = sign_of side *ℤ times_at t l w in omega (arith, ints))
 
+-- an inside line's marks have a reduced cost at its own level alone
+pub nothing_elsewhere : (t : Lists) (l w : ℕ) (inside : Side) → (standing_at t w).side ≡ Some inside → (slot_at t w).home ≢ l → (side : Side) → reduced_at t l w side ≡ pos 0
+nothing_elsewhere t l w inside is h side = reduced_elsewhere t l w side h ∙ ap (λ (z : ℤ). sign_of side *ℤ z) none ∙ signed-zero side
+  where
+    none : times_at t l w ≡ pos 0
+    none =
+        ap (λ (i : Option Side). times_by t i l w) is
+        ∙ ap (λ (b : Bool). cond b (neg_ℤ (sign_of inside *ℤ own_cost t (slot_at t w) inside)) (pos 0)) (ne_eqb (slot_at t w).home l h)
+
+    signed-zero : (s : Side) → sign_of s *ℤ pos 0 ≡ pos 0
+    signed-zero Under = refl
+    signed-zero Over = refl
+
 pub named_line_slot : (t : Lists) (name : RowName) → IsNamed (problem_of t) name → IsSlotOfLine t (line_slot t name)
 named_line_slot t name is = any_impl (λ l. l.name ≡ name) (λ l. line_slot t l.name ≡ line_slot t name) (lines (problem_of t)) (λ l e. ap (line_slot t) e) is
 

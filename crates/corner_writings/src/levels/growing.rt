@@ -4,12 +4,13 @@ ghost use Rattle.problem_core.specs.Corners as corners;
 ghost use Rattle.problem_core.specs.Corners.{IsIn};
 ghost use Rattle.corner_writings.specs.Growing as growing;
 ghost use Rattle.corner_writings.specs.Growing.{AreGrowersDear, IsEntryDear, IsRowDear};
+ghost use Rattle.corner_writings.specs.Walks.{IsLevelRead};
 ghost use Rattle.corner_table.specs.Kept.{IsKept};
 ghost use Rattle.corner_table.specs.Reads.LevelNumbers.{IsLevelSlot, IsSlotOfLine};
 ghost use Rattle.corner_table.specs.Tables.{lists_of, marks_at, problem_of, row_at};
 ghost use Rattle.corner_table.specs.Views.{IsLevelOf};
 
-use crate::levels::reduced_of;
+use crate::levels::{LevelRead, level_read, reduced_by};
 use corner_table::{Table, level_slot, line_slot, other};
 use problem_core::{Level, Mark, Side};
 use row_core::Entry;
@@ -23,26 +24,27 @@ fn growing_side(by: i64, side: Side) -> Side
 }
 
 // Whether the mark of an entry's line costs at the level with which the inside one of w grows.
-fn is_entry_dear(table: &Table, w: u32, side: Side, l: u32, e: Entry) -> bool
+fn is_entry_dear(table: &Table, w: u32, side: Side, read: LevelRead, e: Entry) -> bool
     requires kept { IsKept (lists_of table.now) }
-    requires level { IsLevelSlot (lists_of table.now) l }
+    requires read { IsLevelRead (lists_of table.now) read }
     requires line { e.col ≢ w → IsSlotOfLine (lists_of table.now) e.col }
     requires fits { e.col < 2 ^ 32 }
-    ensures { result ≡ true → IsEntryDear (lists_of table.now) w side l e }
+    ensures { result ≡ true → IsEntryDear (lists_of table.now) w side read.l e }
 {
     let line = e.col.0 as u32;
-    line == w || reduced_of(table, l, line, growing_side(e.by, side)) > 0
+    line == w || reduced_by(table, read, line, growing_side(e.by, side)) > 0
 }
 
-// Whether those of all entries do but of its own.
-fn is_row_dear(table: &Table, w: u32, side: Side, l: u32) -> bool
+/// Whether those of all entries of a slot's row do but of its own.
+pub fn is_row_dear(table: &Table, w: u32, side: Side, l: u32) -> bool
     requires kept { IsKept (lists_of table.now) }
     requires within { w < length table.now.slots.items }
     requires level { IsLevelSlot (lists_of table.now) l }
     ensures { result ≡ true → IsRowDear (lists_of table.now) w side l (row_at (lists_of table.now) w) }
 {
+    let read = level_read(table, l);
     for e in table.matrix.row(w).entries() {
-        if !is_entry_dear(table, w, side, l, *e) {
+        if !is_entry_dear(table, w, side, read, *e) {
             return false;
         }
     }

@@ -18,6 +18,9 @@ scale c =
     let unit-is : c.priority_at.result.unit ≡ (priority_at t c.args.l).unit = search rules in
     level_scale t c.args.l c.own_of_level.result c.priority_at.result.unit own unit c.own_of_level.ensures.value unit-is c.requires.level c.requires.grows
 
+pub grow-requires-clause-there : goal.grow-requires-clause-there
+grow-requires-clause-there c = (c.requires.grows.what, c.requires.grows.there)
+
 pub grow-requires-clause-d : goal.grow-requires-clause-d
 grow-requires-clause-d c = subst (λ (z : ℤ). IsFitting z) (sym (scale c)) c.requires.grows.fits
 

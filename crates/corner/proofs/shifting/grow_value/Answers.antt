@@ -3,39 +3,30 @@ use Rattle.std.specs.Int.{w64}
 use Rattle.std.proofs.lemmas.Int.{to_z-of_z}
 use Rattle.std.proofs.lemmas.Result.{on_ok_weaker}
 use Rattle.corner.specs.declared.shifting.Growth.{Growth}
-use Rattle.corner_exchange.specs.Swaps.Exchanges.{IsWhatAt}
 use Rattle.corner.specs.Shifts.Shifting.{IsGrowStop, IsGrown, outside_growth}
 use Rattle.corner_table.specs.Tables.{lists_of}
-use Rattle.corner.proofs.Shifts.GrownSlots.{growth_is, over_above, there_above, value_number, what_found}
+use Rattle.corner.proofs.Shifts.GrownSlots.{growth_is, over_above, value_number}
 use Rattle.corner.proofs.shifting.grow_value.Goals as goal
 use Rattle.frac_core.proofs.Results.{err_implies as err_all}
-
-there : (c : goal.After-grow-arg-1) → IsWhatAt (lists_of c.args.table.now) c.args.w c.what_at-what.result
-there c =
-    what_found (lists_of c.args.table.now) c.args.w c.requires.grows.what c.what_at-what.result c.side_in.result (c.requires.grows.there.1 c.requires.slot.0)
-    c.side_in.ensures c.what_at-what.ensures.attr c.what_at-what.ensures.line
 
 pub grow-requires-clause-above : goal.grow-requires-clause-above
 grow-requires-clause-above c =
     let own : SFits w64 c.own_of.result = search rules in
     subst (λ (z : ℤ). pos 0 <ℤ z) (over_above (lists_of c.args.table.now) c.args.w c.requires.slot.0 ∙ sym c.own_of.ensures.value ∙ sym (to_z-of_z w64 c.own_of.result own)) c.requires.grows.above
 
-pub grow-requires-clause-what : goal.grow-requires-clause-what
-grow-requires-clause-what c = there_above (lists_of c.args.table.now) c.args.w c.what_at-what.result c.requires.slot.0 (there c)
+pub grow-requires-clause-there : goal.grow-requires-clause-there
+grow-requires-clause-there c = (c.requires.grows.what, c.requires.grows.there)
 
 is : (c : goal.After-grow) → record { n = to_z w64 (of_z w64 c.with_signs.result); d = to_z w64 (of_z w64 c.own_of.result) } ≡ outside_growth (lists_of c.args.table.now) c.args.line c.args.w
 is c =
     let t = lists_of c.args.table.now in
     let own : SFits w64 c.own_of.result = search rules in
     let number : SFits w64 c.entry.result = search rules in
-    let sign : SFits w64 c.what_sign.result = search rules in
+    let sign : SFits w64 c.sign_there.result = search rules in
     let n : SFits w64 c.with_signs.result = search rules in
-    let at : IsWhatAt (lists_of c.args.table.now) c.args.w c.what_at-what.result =
-    what_found t c.args.w c.requires.grows.what c.what_at-what.result c.side_in.result (c.requires.grows.there.1 c.requires.slot.0)
-    c.side_in.ensures c.what_at-what.ensures.attr c.what_at-what.ensures.line in
     growth_is (record { n = to_z w64 (of_z w64 c.with_signs.result); d = to_z w64 (of_z w64 c.own_of.result) }) (outside_growth t c.args.line c.args.w)
-    (value_number t c.args.w c.args.line c.what_at-what.result (to_z w64 (of_z w64 c.with_signs.result)) (to_z w64 (of_z w64 c.entry.result)) (to_z w64 (of_z w64 c.what_sign.result)) at
-    (to_z-of_z w64 c.with_signs.result n ∙ c.with_signs.ensures.value) (to_z-of_z w64 c.entry.result number ∙ c.entry.ensures.value) (to_z-of_z w64 c.what_sign.result sign ∙ c.what_sign.ensures.value))
+    (value_number t c.args.w c.args.line (to_z w64 (of_z w64 c.with_signs.result)) (to_z w64 (of_z w64 c.entry.result)) (to_z w64 (of_z w64 c.sign_there.result))
+    (to_z-of_z w64 c.with_signs.result n ∙ c.with_signs.ensures.value) (to_z-of_z w64 c.entry.result number ∙ c.entry.ensures.value) (to_z-of_z w64 c.sign_there.result sign ∙ c.sign_there.ensures.value))
     (to_z-of_z w64 c.own_of.result own ∙ c.own_of.ensures.value ∙ sym (over_above t c.args.w c.requires.slot.0))
 
 pub returns-clause-ok : goal.returns-clause-ok

@@ -3,4 +3,4 @@ use Rattle.corner_exchange.proofs.Pivots.TouchedFacts.{AreGone}
 use Rattle.corner_exchange.proofs.exchange.changes.Given as goal
 
 abbrev pub invariant-loop-w : goal.invariant-loop-w
-invariant-loop-w l = AreGone (lists_of l.fn.table) l.fn.pivot l.w-items l.w-index l.out.items
+invariant-loop-w l = AreGone (lists_of l.fn.table) l.fn.pivot l.column l.w-index l.out.items

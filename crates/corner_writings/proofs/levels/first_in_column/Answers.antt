@@ -1,6 +1,6 @@
 use Rattle.std.proofs.Common.{◌+◌, arith, sym, subst, inl, inr}
 use Rattle.corner_table.specs.Tables.{lists_of}
-use Rattle.corner_writings.proofs.LevelFacts.ColumnFronts.{IsBestSoFar, at_least, best_is_first, best_next, best_stays, ends_first, none_is_none}
+use Rattle.corner_writings.proofs.LevelFacts.ColumnFronts.{IsBestSoFar, best_is_first, best_next, best_stays, ends_first, none_is_none}
 use Rattle.corner_writings.proofs.levels.first_in_column.Goals.{then-is_before+then-has_reduced+else-ends_column, else-is_before, else-is_before-via-then-is_before+else-has_reduced, else-is_before-via-else-is_before}
 use Rattle.corner_writings.proofs.levels.first_in_column.Goals as goal
 use Rattle.frac_core.proofs.Bools.{not-both as not_both}

@@ -11,16 +11,16 @@ use Rattle.corner_ends.specs.Trails.{HasRun, IsTrailOf}
 use Rattle.corner_ends.proofs.Marks.{in_mark}
 use Rattle.corner_ends.proofs.MarkOrders.{same_self}
 use Rattle.dual_run.proofs.Moved.{lows_swapped}
-use Rattle.dual_run.proofs.RunFacts.{swap_more}
+use Rattle.dual_run.proofs.RunFacts.{none_settled, swap_more}
 use Rattle.dual_run.proofs.runs.exchange.Goals as goal
 use Rattle.corner_table.proofs.Readings.ReadFacts.{mark_named}
 
 pub returns-in_ok-push-in-Ok-clause-trail : goal.returns-in_ok-push-in-Ok-clause-trail
 returns-in_ok-push-in-Ok-clause-trail c = λ first trail.
     let s : Swap = record { enter = c.in_ok-enter.enter; leave = c.args.leave } in
-    subst (λ (p : Problem). IsTrailOf true p first c.push.new.self c.swap.new.self.marks) (sym c.in-Ok.ensures.problem)
-    (c.in_ok-push-in-Ok.ensures.trail true c.args.c.now.problem first c.args.c.now.marks c.swap.new.self.marks trail
-    (swap_more c.args.c.now.problem first c.args.c.now.marks c.swap.new.self.marks c.args.trail.now.swaps s trail.swapped c.in_ok-enter.ensures.swap c.in-Ok.ensures.marks))
+    subst (λ (p : Problem). IsTrailOf true p first c.push.new.self c.swap_settled.new.self.marks) (sym c.in-Ok.ensures.problem)
+    (c.in_ok-push-in-Ok.ensures.trail true c.args.c.now.problem first c.args.c.now.marks c.swap_settled.new.self.marks trail
+    (swap_more c.args.c.now.problem first c.args.c.now.marks c.swap_settled.new.self.marks c.args.trail.now.swaps s trail.swapped c.in_ok-enter.ensures.swap c.in-Ok.ensures.marks))
 
 pub list_swapped-requires-clause-enter : goal.list_swapped-requires-clause-enter
 list_swapped-requires-clause-enter c = subst (λ (p : Problem). IsNamed p c.in_ok-enter.enter.row) (sym c.in-Ok.ensures.problem) (mark_named c.args.c.now.problem c.in_ok-enter.enter c.in_ok-enter.ensures.outside.0)
@@ -32,14 +32,14 @@ list_swapped-requires-clause-leave c =
 
 pub returns-in_ok-push-in-Ok-clause-low : goal.returns-in_ok-push-in-Ok-clause-low
 returns-in_ok-push-in-Ok-clause-low c =
-    lows_swapped c.args.c.now.problem c.swap.new.self.problem c.args.c.now.marks c.swap.new.self.marks (record { enter = c.in_ok-enter.enter; leave = c.args.leave }) c.args.low.now.items c.list_swapped.new.low.items
+    lows_swapped c.args.c.now.problem c.swap_settled.new.self.problem c.args.c.now.marks c.swap_settled.new.self.marks (record { enter = c.in_ok-enter.enter; leave = c.args.leave }) c.args.low.now.items c.list_swapped.new.low.items
     c.show_corner.ensures.kept c.show_corner-in-Ok.ensures.kept c.in-Ok.ensures.problem c.in-Ok.ensures.marks c.requires.low c.requires.leave.low c.in_ok-enter.ensures.outside c.in_ok-list_swapped-in-Ok.ensures
 
 pub returns-in-Err-Refused-clause-stop : goal.returns-in-Err-Refused-clause-stop
 returns-in-Err-Refused-clause-stop c = λ first trail budget short.
     let s : Swap = record { enter = c.in_ok-enter.enter; leave = c.args.leave } in
     let next : List Mark = exchanged s c.args.c.now.marks in
-    let same : c.swap.new.self ≡ c.args.c.now = search rules in
+    let same : c.swap_settled.new.self ≡ c.args.c.now = search rules in
     let told : IsTrailOf true c.args.c.now.problem first c.args.trail.now c.args.c.now.marks → HasRun true c.args.c.now.problem first (c.args.trail.now.swaps ++ s ∷ []) next → IsUnfitStop c.args.c.now.problem next (Refused c.in-Err-Refused.quantity) → (most : ℕ) → length c.args.trail.now.swaps < most → IsStopOf true c.args.c.now.problem c.args.c.now.problem.rows (FromHere first) most c.unfit.result =
     subst (λ (v : CornerView). IsTrailOf true v.problem first c.args.trail.now v.marks → HasRun true v.problem first (c.args.trail.now.swaps ++ s ∷ []) next → IsUnfitStop v.problem next (Refused c.in-Err-Refused.quantity) → (most : ℕ) → length c.args.trail.now.swaps < most → IsStopOf true v.problem v.problem.rows (FromHere first) most c.unfit.result) same (c.unfit.ensures.after true first next) in
     told trail
@@ -49,3 +49,11 @@ returns-in-Err-Refused-clause-stop c = λ first trail budget short.
 
 pub returns-in_ok-push-in-Ok-clause-swap : goal.returns-in_ok-push-in-Ok-clause-swap
 returns-in_ok-push-in-Ok-clause-swap c = (c.in_ok-enter.enter, c.in_ok-push-in-Ok.ensures.swaps)
+
+pub swap_settled-requires-clause-settled : goal.swap_settled-requires-clause-settled
+swap_settled-requires-clause-settled c =
+    let s : Swap = record { enter = c.in_ok-enter.enter; leave = c.args.leave } in
+    let next : List Mark = exchanged s c.args.c.now.marks in
+    let (first, trail) = c.requires.trail in
+    let run : HasRun true c.args.c.now.problem first (c.args.trail.now.swaps ++ s ∷ []) next = swap_more c.args.c.now.problem first c.args.c.now.marks next c.args.trail.now.swaps s trail.swapped c.in_ok-enter.ensures.swap (same_self next) in
+    none_settled c.args.c.now.problem first next (c.args.trail.now.swaps ++ s ∷ []) run

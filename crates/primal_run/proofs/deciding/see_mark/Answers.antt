@@ -1,11 +1,9 @@
-use Rattle.std.proofs.Common.{◌≡◌, ◌∙◌, false, inl, inr, sym, true}
+use Rattle.std.proofs.Common.{◌∙◌, arith, false, inl, inr, sym}
 use Rattle.frac_core.proofs.Bools.{not-both as not_both}
-use Rattle.problem_core.specs.Corners.{place}
-use Rattle.corner.specs.Views.{is_mark}
-use Rattle.primal_run.specs.declared.deciding.Decider.{Decider}
-use Rattle.primal_run.specs.Deciding.{IsDecider}
-use Rattle.primal_run.proofs.Deciders.{sooner_is}
 use Rattle.primal_run.proofs.deciding.see_mark.Goals as goal
+
+pub returns-then-is_late-clause-seen : goal.returns-then-is_late-clause-seen
+returns-then-is_late-clause-seen c = λ first run among. inr (c.is_late.ensures.yes c.if-is_late.true)
 
 pub returns-then-not-began_with-clause-seen : goal.returns-then-not-began_with-clause-seen
 returns-then-not-began_with-clause-seen c = λ first run among.
@@ -17,13 +15,13 @@ returns-then-is_equal-clause-seen c = λ first run among.
 
 pub returns-clause-decider : goal.returns-clause-decider
 returns-clause-decider c =
-    sooner_is (IsDecider c.args.c.now.problem c.args.c.now.marks c.args.tie) c.args.found c.sooner.result (record { mark = c.args.f; order = c.count_order-order.result }) c.sooner.ensures.one c.requires.found
-    (record { mark = c.requires.f; order = c.count_order-order.ensures; uneven = c.is_equal.ensures.no c.if-is_equal.false })
+    record { mark = c.requires.f; order = c.count_order-order.ensures; uneven = c.is_equal.ensures.no c.if-is_equal.false }
 
 pub returns-clause-begun : goal.returns-clause-begun
-returns-clause-begun c = λ first run.
-    sooner_is (λ (d : Decider). is_mark first (place d.mark) ≡ true) c.args.found c.sooner.result (record { mark = c.args.f; order = c.count_order-order.result }) c.sooner.ensures.one (c.requires.begun first run)
-    (sym (c.began_with.ensures false first run) ∙ c.if-not-began_with.false)
+returns-clause-begun c = λ first run. sym (c.began_with.ensures false first run) ∙ c.if-not-began_with.false
+
+pub returns-clause-later : goal.returns-clause-later
+returns-clause-later c = c.is_late.ensures.no c.if-is_late.false c.count_order-order.result
 
 pub returns-clause-seen : goal.returns-clause-seen
-returns-clause-seen c = λ first run among. inr c.sooner.ensures.next
+returns-clause-seen c = λ first run among. inr (omega (arith))

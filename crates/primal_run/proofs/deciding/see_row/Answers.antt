@@ -3,7 +3,7 @@ use Rattle.problem_core.specs.declared.parts.Side.TheVariants.{Under}
 use Rattle.corner_table.proofs.Readings.ReadFacts.{mark_named}
 use Rattle.corner_writings.specs.Entries.{AreBothOutside}
 use Rattle.corner_ends.proofs.Marks.{got_holds, in_mark}
-use Rattle.primal_run.proofs.Deciders.{late_seen, lines_more, row_seen}
+use Rattle.primal_run.proofs.Deciders.{late_seen, lines_more, row_seen, unexchanged_seen}
 use Rattle.primal_run.proofs.deciding.see_row.Goals as goal
 
 pub see_line-best-requires-clause-row : goal.see_line-best-requires-clause-row
@@ -31,3 +31,9 @@ returns-clause-seen c = λ f here.
     let same = m.2 in
     let over = c.loop-i-test.false in
     row_seen c.args.c.now c.args.trail.now c.args.tie c.loop-i.best c.args.m f m.0 c.loop-i.i m.1 (omega (arith, same, over)) (c.loop-i.invariant.entries m.0 m.1) c.loop-i.invariant.own here
+
+pub returns-then-not-is_spent-clause-seen : goal.returns-then-not-is_spent-clause-seen
+returns-then-not-is_spent-clause-seen c = λ f here.
+    let m = c.entries-count.ensures in
+    unexchanged_seen c.args.c.now c.args.trail.now c.args.tie c.see_line-best.result c.args.m f m.0 m.1
+    (c.is_spent.ensures.no c.if-not-is_spent.true) c.see_line-best.ensures.seen here

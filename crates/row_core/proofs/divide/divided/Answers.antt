@@ -12,7 +12,7 @@ use Rattle.row_core.proofs.Dividing.{divided_more, divided_ends, steps_within}
 use Rattle.row_core.proofs.divide.divided.Goals as goal
 
 pub keep-requires-clause-divides : goal.keep-requires-clause-divides
-keep-requires-clause-divides g c =
+keep-requires-clause-divides c =
     let here : c.in-Some.read.by ≡ whole c.args.sum.now c.in-Some.read.col =
     c.in-Some.ensures.read.value c.loop-read.invariant.floor c.loop-read.invariant.are in
     let divisor : to_z w128 (of_z w128 c.args.divisor) ≡ c.args.divisor = to_z-of_z w128 c.args.divisor c.ranges.divisor in
@@ -21,7 +21,7 @@ keep-requires-clause-divides g c =
     rw (divisor, by) (subst (λ (z : ℤ). unsigned_abs c.args.divisor ∣ unsigned_abs z) (sym here) (c.requires.divisor.divides c.in-Some.read.col))
 
 pub returns-in_err-keep-clause-unfit : goal.returns-in_err-keep-clause-unfit
-returns-in_err-keep-clause-unfit g c =
+returns-in_err-keep-clause-unfit c =
     let here : c.in-Some.read.by ≡ whole c.args.sum.now c.in-Some.read.col =
     c.in-Some.ensures.read.value c.loop-read.invariant.floor c.loop-read.invariant.are in
     let divisor : to_z w128 (of_z w128 c.args.divisor) ≡ c.args.divisor = to_z-of_z w128 c.args.divisor c.ranges.divisor in
@@ -34,30 +34,30 @@ returns-in_err-keep-clause-unfit g c =
     none_fits c.args.divisor (whole c.args.sum.now) c.in-Some.read.col c.requires.divisor large)
 
 pub loop-read-smaller : goal.loop-read-smaller
-loop-read-smaller g c =
+loop-read-smaller c =
     let next = c.in-Some.ensures.read.read c.loop-read.invariant.floor c.loop-read.invariant.are in
     omega (arith, c.in-Some.ensures.read.further, steps_within c.args.sum.now c.in-Some.read.next (c.in-Some.read.col + 1) next)
 
 pub loop-read-preserved : goal.loop-read-preserved
-loop-read-preserved g c =
+loop-read-preserved c =
     let pushed : IsPushed (to_z w128 (of_z w128 c.args.divisor)) c.in-Some.read.col c.in-Some.read.by c.loop-read.out.items c.keep.new.out.items =
     search rules in
     divided_more c.args.sum.now c.loop-read.at c.in-Some.read.next (to_z w128 (of_z w128 c.args.divisor)) c.loop-read.out.items c.keep.new.out.items c.in-Some.read.col
-    c.in-Some.read.by c.requires.rising c.loop-read.invariant c.in-Some.ensures.read.first c.in-Some.ensures.read.value c.in-Some.ensures.read.read pushed
+    c.in-Some.read.by c.requires.sum.rising c.loop-read.invariant c.in-Some.ensures.read.first c.in-Some.ensures.read.value c.in-Some.ensures.read.read pushed
 
 pub returns-clause-value : goal.returns-clause-value
-returns-clause-value g c =
+returns-clause-value c =
     let divisor : to_z w128 (of_z w128 c.args.divisor) ≡ c.args.divisor = to_z-of_z w128 c.args.divisor c.ranges.divisor in
     let ends : (q : ℕ) → to_z w128 (of_z w128 c.args.divisor) *ℤ coefficient q c.loop-read.out.items ≡ whole c.args.sum.now q =
-    divided_ends c.args.sum.now c.loop-read.at (to_z w128 (of_z w128 c.args.divisor)) c.loop-read.out.items c.requires.rising c.loop-read.invariant c.in_default.ensures.end in
+    divided_ends c.args.sum.now c.loop-read.at (to_z w128 (of_z w128 c.args.divisor)) c.loop-read.out.items c.requires.sum.rising c.loop-read.invariant c.in_default.ensures.end in
     divided_reduced c.args.divisor c.loop-read.out.items (whole c.args.sum.now) c.requires.divisor.above
     (rw divisor at ends)
 
 pub returns-clause-kept : goal.returns-clause-kept
-returns-clause-kept g c =
+returns-clause-kept c =
     let divisor : to_z w128 (of_z w128 c.args.divisor) ≡ c.args.divisor = to_z-of_z w128 c.args.divisor c.ranges.divisor in
     let ends : (q : ℕ) → to_z w128 (of_z w128 c.args.divisor) *ℤ coefficient q c.loop-read.out.items ≡ whole c.args.sum.now q =
-    divided_ends c.args.sum.now c.loop-read.at (to_z w128 (of_z w128 c.args.divisor)) c.loop-read.out.items c.requires.rising c.loop-read.invariant c.in_default.ensures.end in
+    divided_ends c.args.sum.now c.loop-read.at (to_z w128 (of_z w128 c.args.divisor)) c.loop-read.out.items c.requires.sum.rising c.loop-read.invariant c.in_default.ensures.end in
     record {
       lowest = divided_lowest c.args.divisor c.loop-read.out.items (whole c.args.sum.now) c.requires.divisor
           (rw divisor at ends)

@@ -18,7 +18,7 @@ err-with (Err e) P Q f p = f e p
 
 pub leaver_of-leaver-requires-clause-held : goal.leaver_of-leaver-requires-clause-held
 leaver_of-leaver-requires-clause-held c =
-    inside_row (lists_of c.self.inside.table) c.args.id c.self.invariant.kept (subst (λ (v : CornerView). Any (λ m. m.row ≡ Held c.args.id) v.marks) (sym c.self.view_is) c.requires.inside)
+    inside_row (lists_of c.self.inside.table) c.args.id c.self.invariant.0.kept (subst (λ (v : CornerView). Any (λ m. m.row ≡ Held c.args.id) v.marks) (sym c.self.view_is) c.requires.inside)
 
 pub returns-clause-problem : goal.returns-clause-problem
 returns-clause-problem c =
@@ -35,3 +35,6 @@ returns-clause-stop c =
     err-with c.take_row.result _ (IsUnfitStop (without_row c.args.id c.args.self.now.problem) (without_marks (c.args.id ∷ []) c.args.self.now.marks))
     (λ e h. subst (λ (v : CornerView). IsUnfitStop (without_row c.args.id v.problem) (without_marks (c.args.id ∷ []) v.marks) e) c.self.view_is
     (subst (λ (n : ℕ). IsUnfitStop (without_row n (problem_of (lists_of c.self.inside.table))) (without_marks (n ∷ []) (marks_at (lists_of c.self.inside.table))) e) c.leaver_of-leaver.ensures.id h)) c.take_row.ensures.stop
+
+pub invariant_of-self : goal.invariant_of-self
+invariant_of-self c = (c.take_row.ensures.consistent, c.clear_safe.ensures (lists_of c.take_row.new.table))

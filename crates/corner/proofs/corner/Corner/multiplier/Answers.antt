@@ -17,4 +17,4 @@ returns c =
     subst (λ (v : CornerView). HasNumbers v.problem v.marks c.args.level (λ scale times reduced. to_z w64 (of_z w64 c.times_at.result) ≡ times c.args.row)) c.self.view_is
     (subst (λ (z : ℤ). HasNumbers (problem_of (lists_of c.self.inside.table)) (marks_at (lists_of c.self.inside.table)) c.args.level (λ scale times reduced. z ≡ times c.args.row))
     (sym (to_z-of_z w64 c.times_at.result fits ∙ c.times_at.ensures.value ∙ ap₂ (times_at (lists_of c.self.inside.table)) c.level_slot.ensures.value c.line_slot-line.ensures.value))
-    (has_times (lists_of c.self.inside.table) c.args.level c.args.row c.self.invariant.kept (subst (λ (v : CornerView). IsLevelOf v.problem c.args.level) (sym c.self.view_is) c.requires.level) (subst (λ (v : CornerView). IsNamed v.problem c.args.row) (sym c.self.view_is) c.requires.row)))
+    (has_times (lists_of c.self.inside.table) c.args.level c.args.row c.self.invariant.0.kept (subst (λ (v : CornerView). IsLevelOf v.problem c.args.level) (sym c.self.view_is) c.requires.level) (subst (λ (v : CornerView). IsNamed v.problem c.args.row) (sym c.self.view_is) c.requires.row)))

@@ -13,4 +13,4 @@ returns c =
     subst (λ (v : CornerView). IsReducedAt v.problem v.marks c.args.level c.args.mark (to_z w64 (of_z w64 c.reduced_at.result))) c.self.view_is
     (subst (λ (z : ℤ). IsReducedAt (problem_of (lists_of c.self.inside.table)) (marks_at (lists_of c.self.inside.table)) c.args.level c.args.mark z)
     (sym (to_z-of_z w64 c.reduced_at.result fits ∙ c.reduced_at.ensures ∙ ap (λ w. reduced_at (lists_of c.self.inside.table) w (line_slot (lists_of c.self.inside.table) c.args.mark.row) c.args.mark.side) c.level_slot.ensures.value))
-    (has_reduced (lists_of c.self.inside.table) c.args.level c.args.mark c.self.invariant.kept (subst (λ (v : CornerView). IsLevelOf v.problem c.args.level) (sym c.self.view_is) c.requires.level) (subst (λ (v : CornerView). IsMarkOf v.problem c.args.mark) (sym c.self.view_is) c.requires.mark)))
+    (has_reduced (lists_of c.self.inside.table) c.args.level c.args.mark c.self.invariant.0.kept (subst (λ (v : CornerView). IsLevelOf v.problem c.args.level) (sym c.self.view_is) c.requires.level) (subst (λ (v : CornerView). IsMarkOf v.problem c.args.mark) (sym c.self.view_is) c.requires.mark)))

@@ -13,4 +13,4 @@ returns c =
     subst (λ (v : CornerView). HasNumbers v.problem v.marks c.args.level (λ scale times reduced. to_z w64 (of_z w64 c.scale_at.result) ≡ pos scale)) c.self.view_is
     (subst (λ (z : ℤ). HasNumbers (problem_of (lists_of c.self.inside.table)) (marks_at (lists_of c.self.inside.table)) c.args.level (λ scale times reduced. z ≡ pos scale))
     (sym (to_z-of_z w64 c.scale_at.result fits ∙ c.scale_at.ensures ∙ ap (λ w. own_at (lists_of c.self.inside.table) w *ℤ unit_at (lists_of c.self.inside.table) w) c.level_slot.ensures.value))
-    (has_scale (lists_of c.self.inside.table) c.args.level c.self.invariant.kept (subst (λ (v : CornerView). IsLevelOf v.problem c.args.level) (sym c.self.view_is) c.requires.level)))
+    (has_scale (lists_of c.self.inside.table) c.args.level c.self.invariant.0.kept (subst (λ (v : CornerView). IsLevelOf v.problem c.args.level) (sym c.self.view_is) c.requires.level)))

@@ -27,21 +27,21 @@ line_slot-line-requires-clause-row c = mark_named (problem_of (lists_of c.self.i
 
 pub line_slot-requires-clause-row : goal.line_slot-requires-clause-row
 line_slot-requires-clause-row c = mark_named (problem_of (lists_of c.self.inside.table)) c.args.leave
-    (in_mark (lists_of c.self.inside.table) c.args.leave c.self.invariant.kept (subst (λ (v : CornerView). IsIn (place c.args.leave) v.marks) (sym c.self.view_is) c.requires.leave))
+    (in_mark (lists_of c.self.inside.table) c.args.leave c.self.invariant.0.kept (subst (λ (v : CornerView). IsIn (place c.args.leave) v.marks) (sym c.self.view_is) c.requires.leave))
 
 turns : (c : goal.After-turn_line) → IsTurn (lists_of c.self.inside.table) c.line_slot-line.result c.args.enter.side (record { enter = c.args.enter; leave = c.args.leave })
 turns c =
     let same : c.args.enter.row ≡ c.args.leave.row = c.are_of_line.ensures.0 c.if-are_of_line.true in
-    swap_turn (lists_of c.self.inside.table) c.args.enter c.args.leave c.line_slot-line.result c.self.invariant.kept
+    swap_turn (lists_of c.self.inside.table) c.args.enter c.args.leave c.line_slot-line.result c.self.invariant.0.kept
     (subst (λ (v : CornerView). IsOutside v.problem v.marks c.args.enter) (sym c.self.view_is) c.requires.enter)
     (subst (λ (v : CornerView). IsIn (place c.args.leave) v.marks) (sym c.self.view_is) c.requires.leave) same c.line_slot-line.ensures.value
 
 pub turn_line-requires-clause-turn : goal.turn_line-requires-clause-turn
 turn_line-requires-clause-turn c =
     let same : c.args.enter.row ≡ c.args.leave.row = c.are_of_line.ensures.0 c.if-are_of_line.true in record {
-      kept = c.self.invariant.kept;
+      kept = c.self.invariant.0.kept;
       swap = record { enter = c.args.enter; leave = c.args.leave };
-      is = swap_turn (lists_of c.self.inside.table) c.args.enter c.args.leave c.line_slot-line.result c.self.invariant.kept
+      is = swap_turn (lists_of c.self.inside.table) c.args.enter c.args.leave c.line_slot-line.result c.self.invariant.0.kept
           (subst (λ (v : CornerView). IsOutside v.problem v.marks c.args.enter) (sym c.self.view_is) c.requires.enter)
           (subst (λ (v : CornerView). IsIn (place c.args.leave) v.marks) (sym c.self.view_is) c.requires.leave) same c.line_slot-line.ensures.value;
     }
@@ -57,7 +57,7 @@ pub returns-then-are_of_line-clause-exchange : goal.returns-then-are_of_line-cla
 returns-then-are_of_line-clause-exchange c =
     let same : c.args.enter.row ≡ c.args.leave.row = c.are_of_line.ensures.0 c.if-are_of_line.true in
     subst (λ (v : CornerView). IsExchange v.problem v.marks (record { enter = c.args.enter; leave = c.args.leave })) c.self.view_is
-    (swap_exchange (lists_of c.self.inside.table) c.args.enter c.args.leave c.self.invariant.kept
+    (swap_exchange (lists_of c.self.inside.table) c.args.enter c.args.leave c.self.invariant.0.kept
     (subst (λ (v : CornerView). IsOutside v.problem v.marks c.args.enter) (sym c.self.view_is) c.requires.enter)
     (subst (λ (v : CornerView). IsIn (place c.args.leave) v.marks) (sym c.self.view_is) c.requires.leave)
     (subst (λ (v : CornerView). MovesWith v.problem v.marks c.args.enter (MarkOf c.args.leave)) (sym c.self.view_is) c.requires.moves) (inl same))
@@ -71,7 +71,7 @@ returns-then-are_of_line-clause-stop c =
 pairs : (c : goal.After-exchange_lines) → IsPair (lists_of c.self.inside.table) (record { enter = c.line_slot-line.result; side = c.args.enter.side; leave = c.line_slot.result }) (record { enter = c.args.enter; leave = c.args.leave })
 pairs c =
     let ne : c.args.enter.row ≢ c.args.leave.row = λ e. not_both c.are_of_line.result (c.are_of_line.ensures.1 e) c.if-are_of_line.false in
-    swap_pair (lists_of c.self.inside.table) c.args.enter c.args.leave c.line_slot-line.result c.line_slot.result c.self.invariant.kept
+    swap_pair (lists_of c.self.inside.table) c.args.enter c.args.leave c.line_slot-line.result c.line_slot.result c.self.invariant.0.kept
     (subst (λ (v : CornerView). IsOutside v.problem v.marks c.args.enter) (sym c.self.view_is) c.requires.enter)
     (subst (λ (v : CornerView). IsIn (place c.args.leave) v.marks) (sym c.self.view_is) c.requires.leave)
     (subst (λ (v : CornerView). MovesWith v.problem v.marks c.args.enter (MarkOf c.args.leave)) (sym c.self.view_is) c.requires.moves) ne c.line_slot-line.ensures.value c.line_slot.ensures.value
@@ -79,9 +79,9 @@ pairs c =
 pub exchange_lines-requires-clause-pair : goal.exchange_lines-requires-clause-pair
 exchange_lines-requires-clause-pair c =
     let ne : c.args.enter.row ≢ c.args.leave.row = λ e. not_both c.are_of_line.result (c.are_of_line.ensures.1 e) c.if-are_of_line.false in record {
-      kept = c.self.invariant.kept;
+      kept = c.self.invariant.0.kept;
       swap = record { enter = c.args.enter; leave = c.args.leave };
-      is = swap_pair (lists_of c.self.inside.table) c.args.enter c.args.leave c.line_slot-line.result c.line_slot.result c.self.invariant.kept
+      is = swap_pair (lists_of c.self.inside.table) c.args.enter c.args.leave c.line_slot-line.result c.line_slot.result c.self.invariant.0.kept
           (subst (λ (v : CornerView). IsOutside v.problem v.marks c.args.enter) (sym c.self.view_is) c.requires.enter)
           (subst (λ (v : CornerView). IsIn (place c.args.leave) v.marks) (sym c.self.view_is) c.requires.leave)
           (subst (λ (v : CornerView). MovesWith v.problem v.marks c.args.enter (MarkOf c.args.leave)) (sym c.self.view_is) c.requires.moves) ne c.line_slot-line.ensures.value c.line_slot.ensures.value;
@@ -98,7 +98,7 @@ pub returns-clause-exchange : goal.returns-clause-exchange
 returns-clause-exchange c =
     let ne : c.args.enter.row ≢ c.args.leave.row = λ e. not_both c.are_of_line.result (c.are_of_line.ensures.1 e) c.if-are_of_line.false in
     subst (λ (v : CornerView). IsExchange v.problem v.marks (record { enter = c.args.enter; leave = c.args.leave })) c.self.view_is
-    (swap_exchange (lists_of c.self.inside.table) c.args.enter c.args.leave c.self.invariant.kept
+    (swap_exchange (lists_of c.self.inside.table) c.args.enter c.args.leave c.self.invariant.0.kept
     (subst (λ (v : CornerView). IsOutside v.problem v.marks c.args.enter) (sym c.self.view_is) c.requires.enter)
     (subst (λ (v : CornerView). IsIn (place c.args.leave) v.marks) (sym c.self.view_is) c.requires.leave)
     (subst (λ (v : CornerView). MovesWith v.problem v.marks c.args.enter (MarkOf c.args.leave)) (sym c.self.view_is) c.requires.moves) (inr ne))
@@ -108,3 +108,9 @@ returns-clause-stop c =
     err-with c.exchange_lines.result (IsPairStop (lists_of c.self.inside.table) (record { enter = c.line_slot-line.result; side = c.args.enter.side; leave = c.line_slot.result })) (IsUnfitStop c.args.self.now.problem (exchanged (record { enter = c.args.enter; leave = c.args.leave }) c.args.self.now.marks))
     (λ e h. subst (λ (v : CornerView). IsUnfitStop v.problem (exchanged (record { enter = c.args.enter; leave = c.args.leave }) v.marks) e) c.self.view_is (h (record { enter = c.args.enter; leave = c.args.leave }) (pairs c)))
     c.exchange_lines.ensures.stop
+
+pub invariant_of-self : goal.invariant_of-self
+invariant_of-self c = (c.turn_line.ensures.consistent, c.clear_safe.ensures (lists_of c.turn_line.new.table))
+
+pub invariant_of-self-2 : goal.invariant_of-self-2
+invariant_of-self-2 c = (c.exchange_lines.ensures.consistent, c.clear_safe.ensures (lists_of c.exchange_lines.new.table))

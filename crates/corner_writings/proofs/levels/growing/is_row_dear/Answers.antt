@@ -1,4 +1,4 @@
-use Rattle.std.proofs.Common.{rules, ◌≡◌, ◌<◌, ◌≤◌, ◌∙◌, ◌+◌, ◌++◌, ◌∷◌, [], length, take, slice_index_or, subst, sym, true, List}
+use Rattle.std.proofs.Common.{rules, ◌≡◌, ◌<◌, ◌≤◌, ◌∙◌, ◌+◌, ◌++◌, ◌∷◌, [], length, take, slice_index_or, subst, sym, true, List, ℕ}
 use Rattle.std.proofs.lemmas.Option.{get_or_from_slice_get}
 use Rattle.std.proofs.lemmas.List.Elements.{All-push}
 use Rattle.row_core.specs.Rows.{IsKeptRow, Term}
@@ -25,7 +25,8 @@ loop-e-preserved c =
     subst (λ (row : List Term). take (c.loop-e.e-index + 1) row ≡ take c.loop-e.e-index row ++ (c.e-item.result ∷ [])) (sym same) (take_next c.entries-e-items.result.now c.loop-e.e-index c.e-item.result lt is) in
     let yes : c.is_entry_dear.result ≡ true = search rules in
     subst (IsRowDear (lists_of c.args.table.now) c.args.w c.args.side c.args.l) (sym next)
-    (All-push (IsEntryDear (lists_of c.args.table.now) c.args.w c.args.side c.args.l) (take c.loop-e.e-index (row_at (lists_of c.args.table.now) c.args.w)) c.e-item.result c.loop-e.invariant (c.is_entry_dear.ensures yes))
+    (All-push (IsEntryDear (lists_of c.args.table.now) c.args.w c.args.side c.args.l) (take c.loop-e.e-index (row_at (lists_of c.args.table.now) c.args.w)) c.e-item.result c.loop-e.invariant
+    (subst (λ (k : ℕ). IsEntryDear (lists_of c.args.table.now) c.args.w c.args.side k c.e-item.result) c.level_read-read.ensures.slot (c.is_entry_dear.ensures yes)))
 
 pub returns : goal.returns
 returns c = λ _.

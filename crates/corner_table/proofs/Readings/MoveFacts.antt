@@ -1,0 +1,391 @@
+-- Which attributes have other values than at another time.
+use Rattle.std.proofs.Common.{◌≡◌, ◌≢◌, ◌⊎◌, ◌∙◌, ◌<◌, ◌≤◌, ℕ, ◌+◌, List, [], ◌∷◌, ◌++◌, length, take, get_or, All, pos, Some, None, refl, sym, ap, subst, arith, inl, inr}
+use Rattle.std.specs.Prelude.{Contains, slice_get, slice_index_or}
+use Rattle.std.specs.declared.option.Option.{Option}
+use Rattle.std.specs.Option.{unwrap_or}
+use Rattle.std.proofs.lemmas.Bool.{cases_eq, cases_lt}
+use Rattle.std.proofs.lemmas.List.{take_more}
+use Rattle.std.proofs.lemmas.List.Elements.{All-push, Contains-append_left, Contains-push, Contains-push_cases}
+use Rattle.std.proofs.lemmas.Option.{get_or_from_slice_get, slice_get-get_or, slice_get_cases, slice_get_past, slice_get_within, unwrap_or-slice_get}
+use Rattle.frac_core.specs.Fraction.{Fraction}
+use Rattle.problem_core.specs.Layout.{HasStay}
+use Rattle.problem_core.specs.Window.{zero_fraction}
+use Rattle.problem_core.specs.declared.parts.Rel.TheVariants.{Eq}
+use Rattle.corner_table.specs.declared.table.Owner.{Owner}
+use Rattle.corner_table.specs.declared.table.Owner.TheVariants.{Level as LevelSlot, Attr as AttrSlot, Line as LineSlot}
+use Rattle.corner_table.specs.declared.table.Slot.{Slot}
+use Rattle.corner_table.specs.declared.table.Standing.{Standing}
+use Rattle.corner_table.specs.declared.table.Priority.{Priority}
+use Rattle.corner_table.specs.declared.table.Table.{Table}
+use Rattle.row_core.specs.Rows.{Term}
+use Rattle.problem_core.specs.Layout.{Row}
+use Rattle.problem_core.specs.declared.parts.Stay.{Stay}
+use Rattle.corner_table.specs.declared.table.TheConstants.{LEVELS}
+use Rattle.corner_table.specs.Tables.{Lists, attr_slot, slot_at, standing_at}
+use Rattle.corner_table.specs.Histories.{AreAlike, lists_before, side_by_side}
+use Rattle.corner_table.specs.Kept.{AreSlots, IsAttrSlot, IsOwned, IsSlot}
+use Rattle.corner_table.specs.Moves.{AreMoved, HasMoved, HasStayed, HasValue, IsListed, Keeps, Shows, marked_of}
+use Rattle.corner_table.proofs.Readings.SlotFacts.{any_is}
+
+-- ---- past the end
+
+abbrev empty-slot : Slot
+empty-slot = record {
+  owner = LevelSlot;
+  home = 0;
+  rank = 0;
+  weight = pos 1;
+  scale = pos 1;
+  rel = Eq;
+}
+
+abbrev empty-standing : Standing
+empty-standing = record { side = None; value = zero_fraction }
+
+get-none : {X : Type 0} (xs : List X) (i : ℕ) (d : X) → slice_get xs i ≡ None → get_or xs i d ≡ d
+get-none xs i d none = sym (unwrap_or-slice_get xs i d) ∙ ap (λ o. unwrap_or o d) none
+
+get-same : {X : Type 0} (xs ys : List X) (i : ℕ) (d : X) → slice_get xs i ≡ slice_get ys i → get_or xs i d ≡ get_or ys i d
+get-same xs ys i d same =
+    sym (unwrap_or-slice_get xs i d) ∙ ap (λ o. unwrap_or o d) same ∙ unwrap_or-slice_get ys i d
+
+-- ---- slots of attributes
+
+no-attr : (o : Owner) (attr : ℕ) → o ≡ LevelSlot → o ≡ AttrSlot attr → ⊥
+no-attr o attr level own = cc
+
+-- a slot that says so is the attribute's
+pub own_stay :
+    (t : Lists) (attr w : ℕ) → AreSlots t → (slot_at t w).owner ≡ AttrSlot attr
+    → HasStay t.stays attr × (attr_slot t attr ≡ w)
+own_stay t attr w slots own =
+    let within : w < length t.slots =
+    elim (cases_lt w (length t.slots)) [
+      | inl inside ↦ inside
+      | inr past ↦
+          let none : (slot_at t w).owner ≡ LevelSlot =
+          ap (λ (s : Slot). s.owner) (get-none t.slots w empty-slot (slice_get_past t.slots w past)) in
+          absurd (no-attr (slot_at t w).owner attr none own)
+    ] in
+    let above : LEVELS ≤ w =
+    elim (cases_lt w LEVELS) [
+      | inl low ↦ absurd (no-attr (slot_at t w).owner attr (slots.level_owners w low) own)
+      | inr high ↦ high
+    ] in
+    subst (λ (o : Owner). IsOwned t w o) own (slots.owners w (above, within))
+
+-- an attribute has a slot, which says so
+pub slot_of : (t : Lists) (attr : ℕ) → AreSlots t → HasStay t.stays attr → IsAttrSlot t attr
+slot_of t attr slots has =
+    any_is (λ s. IsAttrSlot t s.attr) (λ s. s.attr ≡ attr) t.stays slots.attrs has
+    (λ s k e. subst (λ (a : ℕ). IsAttrSlot t a) e k)
+
+-- ---- what is found of an attribute
+
+pub record IsFound (t : Lists) (attr w : ℕ) (slot : Slot) (s : Standing) : Type 0 where
+  pub at : slice_get t.attr_slots attr ≡ Some w
+  pub there : slice_get t.slots w ≡ Some slot
+  pub own : slot.owner ≡ AttrSlot attr
+  pub stands : slice_get t.standings w ≡ Some s
+
+pub value_shown :
+    (t : Lists) (attr w : ℕ) (slot : Slot) (s : Standing) → AreSlots t → IsFound t attr w slot s
+    → HasValue t attr s.value
+value_shown t attr w slot s slots found =
+    let at : attr_slot t attr ≡ w = get_or_from_slice_get t.attr_slots attr w 0 found.at in
+    let own : (slot_at t w).owner ≡ AttrSlot attr =
+    ap (λ (x : Slot). x.owner) (get_or_from_slice_get t.slots w slot empty-slot found.there) ∙ found.own in (
+      (own_stay t attr w slots own).0,
+      ap (λ (v : ℕ). (standing_at t v).value) at
+          ∙ ap (λ (x : Standing). x.value) (get_or_from_slice_get t.standings w s empty-standing found.stands),
+    )
+
+found-number :
+    (t : Lists) (attr : ℕ) → LEVELS ≤ attr_slot t attr → slice_get t.attr_slots attr ≡ Some (attr_slot t attr)
+found-number t attr above =
+    elim (slice_get_cases t.attr_slots attr).1 [
+      | inl here ↦ here.2 ∙ ap Some (sym (get_or_from_slice_get t.attr_slots attr here.0 0 here.2))
+      | inr past ↦
+          let none : attr_slot t attr ≡ 0 =
+          sym (unwrap_or-slice_get t.attr_slots attr 0) ∙ ap (λ (o : Option ℕ). unwrap_or o 0) past.1 in
+          absurd (omega (arith, above, none))
+    ]
+
+pub value_found :
+    (t : Lists) (attr : ℕ) → AreSlots t → HasStay t.stays attr
+    → IsFound t attr (attr_slot t attr) (slot_at t (attr_slot t attr)) (standing_at t (attr_slot t attr))
+value_found t attr slots has =
+    let is = slot_of t attr slots has in record {
+      at = found-number t attr is.slot.0;
+      there = slice_get-get_or t.slots (attr_slot t attr) empty-slot is.slot.1;
+      own = is.owner;
+      stands = slice_get-get_or t.standings (attr_slot t attr) empty-standing (omega (arith, is.slot.1, slots.standings));
+    }
+
+none-some : {A : Type 0} (o : Option A) (x : A) → o ≡ None → o ≡ Some x → ⊥
+none-some o x none some = cc
+
+same-some : {A : Type 0} (o : Option A) (x y : A) → o ≡ Some x → o ≡ Some y → x ≡ y
+same-some o x y a b = cc
+
+-- without a number there is no value
+pub no_number :
+    (t : Lists) (attr : ℕ) → AreSlots t → slice_get t.attr_slots attr ≡ None → Shows HasValue t attr None
+no_number t attr slots none = λ f has.
+    none-some (slice_get t.attr_slots attr) (attr_slot t attr) none (value_found t attr slots has.0).at
+
+-- without a slot there
+pub no_slot :
+    (t : Lists) (attr w : ℕ) → AreSlots t → slice_get t.attr_slots attr ≡ Some w → slice_get t.slots w ≡ None
+    → Shows HasValue t attr None
+no_slot t attr w slots number none = λ f has.
+    let found = value_found t attr slots has.0 in
+    let same : w ≡ attr_slot t attr = same-some (slice_get t.attr_slots attr) w (attr_slot t attr) number found.at in
+    none-some (slice_get t.slots w) (slot_at t (attr_slot t attr)) none
+    (subst (λ (v : ℕ). slice_get t.slots v ≡ Some (slot_at t (attr_slot t attr))) (sym same) found.there)
+
+-- where the slot isn't the attribute's
+pub no_owner :
+    (t : Lists) (attr w : ℕ) (slot : Slot) → AreSlots t → slice_get t.attr_slots attr ≡ Some w
+    → slice_get t.slots w ≡ Some slot → (slot.owner ≡ AttrSlot attr → ⊥) → Shows HasValue t attr None
+no_owner t attr w slot slots number there other = λ f has.
+    let found = value_found t attr slots has.0 in
+    let same : w ≡ attr_slot t attr = same-some (slice_get t.attr_slots attr) w (attr_slot t attr) number found.at in
+    let one : slot ≡ slot_at t (attr_slot t attr) =
+    same-some (slice_get t.slots w) slot (slot_at t (attr_slot t attr)) there
+    (subst (λ (v : ℕ). slice_get t.slots v ≡ Some (slot_at t (attr_slot t attr))) (sym same) found.there) in
+    other (ap (λ (x : Slot). x.owner) one ∙ found.own)
+
+-- without a value there
+pub no_standing :
+    (t : Lists) (attr w : ℕ) → AreSlots t → slice_get t.attr_slots attr ≡ Some w → slice_get t.standings w ≡ None
+    → Shows HasValue t attr None
+no_standing t attr w slots number none = λ f has.
+    let found = value_found t attr slots has.0 in
+    let same : w ≡ attr_slot t attr = same-some (slice_get t.attr_slots attr) w (attr_slot t attr) number found.at in
+    none-some (slice_get t.standings w) (standing_at t (attr_slot t attr)) none
+    (subst (λ (v : ℕ). slice_get t.standings v ≡ Some (standing_at t (attr_slot t attr))) (sym same) found.stands)
+
+-- ---- what is listed
+
+-- past the last slot nothing is an attribute's
+pub none_listed : (t : Lists) (attrs : List ℕ) (w : ℕ) → slice_get t.slots w ≡ None → IsListed t attrs w
+none_listed t attrs w none = λ attr own.
+    let level : (slot_at t w).owner ≡ LevelSlot =
+    ap (λ (s : Slot). s.owner) (get-none t.slots w empty-slot none) in
+    absurd (no-attr (slot_at t w).owner attr level own)
+
+pub one_listed :
+    (t : Lists) (attrs : List ℕ) (w : ℕ) (slot : Slot) → slice_get t.slots w ≡ Some slot
+    → ((attr : ℕ) → slot.owner ≡ AttrSlot attr → Contains attrs attr) → IsListed t attrs w
+one_listed t attrs w slot there has = λ attr own.
+    has attr (sym (ap (λ (x : Slot). x.owner) (get_or_from_slice_get t.slots w slot empty-slot there)) ∙ own)
+
+pub of_these : {X : Type 0} (P : X → Type 0) (xs : List X) (x : X) → All P xs → Contains xs x → P x
+of_these P xs x all has = subst P has.2 (all has.0 x has.1)
+
+owner-is : (o : Owner) (attr : ℕ) → (o ≡ AttrSlot attr) ⊎ (o ≡ AttrSlot attr → ⊥)
+owner-is LevelSlot attr = inr (λ own. no-attr LevelSlot attr refl own)
+owner-is (AttrSlot a) attr =
+    elim (cases_eq a attr) [
+      | inl same ↦ inl (ap AttrSlot same)
+      | inr other ↦ inr (λ own. other (attr-same a attr own))
+    ]
+  where
+    attr-same : (a b : ℕ) → AttrSlot a ≡ AttrSlot b → a ≡ b
+    attr-same a b e = cc
+owner-is (LineSlot name) attr = inr (λ own. line-no-attr own)
+  where
+    line-no-attr : LineSlot name ≡ AttrSlot attr → ⊥
+    line-no-attr own = cc
+
+same-slot : (old new : Lists) (w : ℕ) → slice_get old.slots w ≡ slice_get new.slots w → slot_at old w ≡ slot_at new w
+same-slot old new w same =
+    get-same old.slots new.slots w empty-slot same
+
+same-standing :
+    (old new : Lists) (w : ℕ) → slice_get old.standings w ≡ slice_get new.standings w → standing_at old w ≡ standing_at new w
+same-standing old new w same =
+    get-same old.standings new.standings w empty-standing same
+
+stayed-here :
+    (old new : Lists) (attr w : ℕ) → AreSlots old → AreSlots new → attr_slot new attr ≡ w
+    → (slot_at new w).owner ≡ AttrSlot attr → slot_at old w ≡ slot_at new w → standing_at old w ≡ standing_at new w
+    → HasStayed HasValue old new attr
+stayed-here old new attr w slots_old slots_new at own slot standing =
+    let then = own_stay old attr w slots_old (ap (λ (x : Slot). x.owner) slot ∙ own) in
+    let now = own_stay new attr w slots_new own in (
+      Some (standing_at new w).value,
+      (then.0, ap (λ (v : ℕ). (standing_at old v).value) then.1 ∙ ap (λ (x : Standing). x.value) standing),
+      (now.0, ap (λ (v : ℕ). (standing_at new v).value) now.1),
+    )
+
+-- where other slots and values stand at the listed places alone, an attribute is listed or has stayed
+pub one_or_stayed :
+    (old new : Lists) (attrs slots standings : List ℕ) → AreSlots old → AreSlots new
+    → ((w : ℕ) → Contains slots w ⊎ (slice_get old.slots w ≡ slice_get new.slots w))
+    → ((w : ℕ) → Contains standings w ⊎ (slice_get old.standings w ≡ slice_get new.standings w))
+    → All (IsListed new attrs) slots → All (IsListed old attrs) slots → All (IsListed new attrs) standings
+    → (attr : ℕ) → Contains attrs attr ⊎ HasStayed HasValue old new attr
+one_or_stayed old new attrs slots standings slots_old slots_new at_slots at_standings now then now_too attr =
+    elim (owner-is (slot_at new (attr_slot new attr)).owner attr) [
+      | inl own ↦
+          elim (at_slots (attr_slot new attr)) [
+            | inl listed ↦ inl (of_these (IsListed new attrs) slots (attr_slot new attr) now listed attr own)
+            | inr slot ↦
+                elim (at_standings (attr_slot new attr)) [
+                  | inl listed ↦ inl (of_these (IsListed new attrs) standings (attr_slot new attr) now_too listed attr own)
+                  | inr standing ↦
+                      inr
+                      (stayed-here old new attr (attr_slot new attr) slots_old slots_new refl own
+                      (same-slot old new (attr_slot new attr) slot) (same-standing old new (attr_slot new attr) standing))
+                ]
+          ]
+      | inr none ↦
+          elim (owner-is (slot_at old (attr_slot old attr)).owner attr) [
+            | inl own ↦
+                elim (at_slots (attr_slot old attr)) [
+                  | inl listed ↦ inl (of_these (IsListed old attrs) slots (attr_slot old attr) then listed attr own)
+                  | inr slot ↦
+                      let there : (slot_at new (attr_slot old attr)).owner ≡ AttrSlot attr =
+                      ap (λ (x : Slot). x.owner) (sym (same-slot old new (attr_slot old attr) slot)) ∙ own in
+                      let at = (own_stay new attr (attr_slot old attr) slots_new there).1 in
+                      absurd (none (subst (λ (v : ℕ). (slot_at new v).owner ≡ AttrSlot attr) (sym at) there))
+                ]
+            | inr none_old ↦
+                inr (None, (λ f has. none_old (slot_of old attr slots_old has.0).owner), (λ f has. none (slot_of new attr slots_new has.0).owner))
+          ]
+    ]
+
+listed-more :
+    (t : Lists) (attrs more : List ℕ) (places : List ℕ) (i : ℕ) → i < length places → Keeps attrs more
+    → All (IsListed t attrs) (take i places) → IsListed t more (get_or places i 0)
+    → All (IsListed t more) (take (i + 1) places)
+listed-more t attrs more places i within keeps before here =
+    subst (All (IsListed t more)) (sym (take_more places i 0 within))
+    (All-push (IsListed t more) (take i places) (get_or places i 0)
+    (λ k d inside attr own. keeps attr (before k d inside attr own)) here)
+
+-- after one place more
+pub record AreListed (now then : Lists) (first attrs : List ℕ) (places : List ℕ) : Type 0 where
+  pub keeps : Keeps first attrs
+  pub now_listed : All (IsListed now attrs) places
+  pub then_listed : All (IsListed then attrs) places
+
+pub next_listed :
+    (now then : Lists) (first attrs mid more : List ℕ) (places : List ℕ) (i : ℕ) → i < length places
+    → AreListed now then first attrs (take i places) → Keeps attrs mid → IsListed now mid (get_or places i 0)
+    → Keeps mid more → IsListed then more (get_or places i 0)
+    → AreListed now then first more (take (i + 1) places)
+next_listed now then first attrs mid more places i within are to_mid here to_more here_then = record {
+  keeps = λ x has. to_more x (to_mid x (are.keeps x has));
+  now_listed = listed-more now attrs more places i within (λ x has. to_more x (to_mid x has)) are.now_listed
+      (λ attr own. to_more attr (here attr own));
+  then_listed = listed-more then attrs more places i within (λ x has. to_more x (to_mid x has)) are.then_listed here_then;
+}
+
+pub still_listed :
+    (t : Lists) (attrs more : List ℕ) (places : List ℕ) → Keeps attrs more → All (IsListed t attrs) places
+    → All (IsListed t more) places
+still_listed t attrs more places keeps all = λ k d within attr own. keeps attr (all k d within attr own)
+
+-- ---- what has moved among these
+
+pub record AreMovedOf (old new : Lists) (tried out : List ℕ) : Type 0 where
+  pub moved : All (HasMoved HasValue old new) out
+  pub others : (x : ℕ) → Contains tried x → Contains out x ⊎ HasStayed HasValue old new x
+
+pub next_moved :
+    (old new : Lists) (tried out : List ℕ) (i : ℕ) → i < length tried → AreMovedOf old new (take i tried) out
+    → HasMoved HasValue old new (get_or tried i 0)
+    → AreMovedOf old new (take (i + 1) tried) (out ++ get_or tried i 0 ∷ [])
+next_moved old new tried out i within are moves = record {
+  moved = All-push (HasMoved HasValue old new) out (get_or tried i 0) are.moved moves;
+  others = λ x has.
+      elim (Contains-push_cases (take i tried) (get_or tried i 0) x (subst (λ (xs : List ℕ). Contains xs x) (take_more tried i 0 within) has)) [
+        | inl before ↦
+            elim (are.others x before) [
+              | inl one ↦ inl (Contains-append_left out (get_or tried i 0 ∷ []) x one)
+              | inr stayed ↦ inr stayed
+            ]
+        | inr last ↦ inl (subst (Contains (out ++ get_or tried i 0 ∷ [])) last (Contains-push out (get_or tried i 0)))
+      ];
+}
+
+pub next_stayed :
+    (old new : Lists) (tried out : List ℕ) (i : ℕ) → i < length tried → AreMovedOf old new (take i tried) out
+    → HasStayed HasValue old new (get_or tried i 0)
+    → AreMovedOf old new (take (i + 1) tried) out
+next_stayed old new tried out i within are stays = record {
+  moved = are.moved;
+  others = λ x has.
+      elim (Contains-push_cases (take i tried) (get_or tried i 0) x (subst (λ (xs : List ℕ). Contains xs x) (take_more tried i 0 within) has)) [
+        | inl before ↦ are.others x before
+        | inr last ↦ inr (subst (HasStayed HasValue old new) last stays)
+      ];
+}
+
+pub all_moved :
+    (old new : Lists) (tried out : List ℕ) → AreMovedOf old new tried out
+    → ((x : ℕ) → Contains tried x ⊎ HasStayed HasValue old new x) → AreMoved HasValue old new out
+all_moved old new tried out are each = record {
+  moved = are.moved;
+  others = λ x.
+      elim (each x) [
+        | inl one ↦ are.others x one
+        | inr stayed ↦ inr stayed
+      ];
+}
+
+-- ---- the same told of something else
+
+pub moved_by :
+    {S R F : Type 0} (Has : S → ℕ → F → Type 0) (Other : R → ℕ → F → Type 0) (old new : S) (then now : R) (xs : List ℕ)
+    → ((x : ℕ) (o : Option F) → Shows Has old x o → Shows Other then x o)
+    → ((x : ℕ) (o : Option F) → Shows Has new x o → Shows Other now x o)
+    → AreMoved Has old new xs → AreMoved Other then now xs
+moved_by Has Other old new then now xs of_old of_new are = record {
+  moved = λ k d within.
+      let m = are.moved k d within in
+      (m.0, m.1, of_old (get_or xs k d) m.0 m.2, of_new (get_or xs k d) m.1 m.3, m.4);
+  others = λ x.
+      elim (are.others x) [
+        | inl one ↦ inl one
+        | inr stayed ↦ inr (stayed.0, of_old x stayed.0 stayed.1, of_new x stayed.0 stayed.2)
+      ];
+}
+
+-- ---- the newest mark
+
+first-lists :
+    (rs : List (List Row)) (ss : List (List Stay)) (ls : List (List Slot)) (vs : List (List Standing)) (ms : List (List (List Term)))
+    (bs ds : List (List ℕ)) (ps : List (List Priority))
+    → 0 < length rs → length ss ≡ length rs → length ls ≡ length rs → length vs ≡ length rs → length ms ≡ length rs
+    → length bs ≡ length rs → length ds ≡ length rs → length ps ≡ length rs
+    → (rest : List Lists) × (side_by_side rs ss ls vs ms bs ds ps ≡ record {
+      rows = slice_index_or rs 0 [];
+      stays = slice_index_or ss 0 [];
+      slots = slice_index_or ls 0 [];
+      standings = slice_index_or vs 0 [];
+      matrix = slice_index_or ms 0 [];
+      attr_slots = slice_index_or bs 0 [];
+      row_slots = slice_index_or ds 0 [];
+      priorities = slice_index_or ps 0 [];
+    } ∷ rest)
+first-lists [] ss ls vs ms bs ds ps some e1 e2 e3 e4 e5 e6 e7 = absurd (omega (arith, some))
+first-lists (r ∷ rs) [] ls vs ms bs ds ps some e1 e2 e3 e4 e5 e6 e7 = absurd (omega (arith, e1))
+first-lists (r ∷ rs) (s ∷ ss) [] vs ms bs ds ps some e1 e2 e3 e4 e5 e6 e7 = absurd (omega (arith, e2))
+first-lists (r ∷ rs) (s ∷ ss) (l ∷ ls) [] ms bs ds ps some e1 e2 e3 e4 e5 e6 e7 = absurd (omega (arith, e3))
+first-lists (r ∷ rs) (s ∷ ss) (l ∷ ls) (v ∷ vs) [] bs ds ps some e1 e2 e3 e4 e5 e6 e7 = absurd (omega (arith, e4))
+first-lists (r ∷ rs) (s ∷ ss) (l ∷ ls) (v ∷ vs) (m ∷ ms) [] ds ps some e1 e2 e3 e4 e5 e6 e7 = absurd (omega (arith, e5))
+first-lists (r ∷ rs) (s ∷ ss) (l ∷ ls) (v ∷ vs) (m ∷ ms) (b ∷ bs) [] ps some e1 e2 e3 e4 e5 e6 e7 = absurd (omega (arith, e6))
+first-lists (r ∷ rs) (s ∷ ss) (l ∷ ls) (v ∷ vs) (m ∷ ms) (b ∷ bs) (d ∷ ds) [] some e1 e2 e3 e4 e5 e6 e7 = absurd (omega (arith, e7))
+first-lists (r ∷ rs) (s ∷ ss) (l ∷ ls) (v ∷ vs) (m ∷ ms) (b ∷ bs) (d ∷ ds) (p ∷ ps) some e1 e2 e3 e4 e5 e6 e7 =
+    (side_by_side rs ss ls vs ms bs ds ps, refl)
+
+-- the lists at the newest mark are the first of the earlier ones
+pub first_before :
+    (t : Table) → AreAlike t → 0 < length t.rows.before → (rest : List Lists) × (lists_before t ≡ marked_of t ∷ rest)
+first_before t alike some =
+    first-lists t.rows.before t.stays.before t.slots.before t.standings.before t.matrix.before t.attr_slots.before t.row_slots.before
+    t.priorities.before some alike.stays alike.slots alike.standings alike.matrix alike.attr_slots alike.row_slots alike.priorities
