@@ -8,6 +8,7 @@ use Rattle.frac_core.specs.Fraction.{Fraction, Fits, IsKept, IsLowest, IsRatio, 
 use Rattle.problem_core.specs.declared.limits.TheConstants.{REQUIRED}
 use Rattle.problem_core.specs.Layout.{HasStay, Problem, Row}
 use Rattle.problem_core.specs.Kept.{IsWhole}
+use Rattle.problem_core.specs.Numbers.{AreNumbersOf}
 use Rattle.corner.specs.Shifts.Shifting.{IsNear}
 use Rattle.corner_lines.specs.Shifts.{IsShift, has_constant, with_constant}
 use Rattle.corner.proofs.Shifts.ShiftLines.{shift_whole}
@@ -18,7 +19,6 @@ use Rattle.layout_solver.specs.Layouts.{AreBest, Layout, Solution, solution_of, 
 use Rattle.layout_solver.specs.Shifts.{CanShift, shifted, with_shifts}
 use Rattle.layout_solver.specs.Starts.{attrs_of}
 use Rattle.conflict_core.specs.Cores.{is_among, is_tried, trial, without}
-use Rattle.conflict_core.specs.Searches.{AreNumbersOf}
 use Rattle.conflict_core.specs.Shown.{IsSolution}
 use Rattle.conflict_core.specs.Trials.{nothing}
 use Rattle.conflict_core.specs.Yielding.{GivesWay, IsOwn, MayGet}
@@ -154,7 +154,7 @@ others-too P ids n f [] h = tt
 others-too P ids n f (r ∷ rows) h =
     other-step P n f r (is_tried ids r) (is_tried (without n ids) r) (filter (is_tried ids) rows) (filter (is_tried (without n ids)) rows) (other-tried ids n r) (others-too P ids n f rows) h
 
-module _ (p : Problem) (ids : List ℕ) (to : Change) (l : Layout) (way : GivesWay p ids to l) (numbers : List ℕ) (are : AreNumbersOf p numbers) where
+module _ (p : Problem) (ids : List ℕ) (to : Change) (l : Layout) (way : GivesWay p ids to l) (numbers : List ℕ) (are : AreNumbersOf p.stays numbers) where
   -- each number is that of an attribute which the engine has
   pub way_held : All (HasStay l.problem.stays) numbers
   way_held = all_held l.problem numbers (subst (λ (ns : List ℕ). IsPermutation ns numbers) (sym way.attrs) are.same)

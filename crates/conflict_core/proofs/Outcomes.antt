@@ -11,7 +11,7 @@ use Rattle.problem_core.specs.Layout.{Assignment, Gives, HasStay, Problem, Satis
 use Rattle.layout_solver.specs.Layouts.{AreBest}
 use Rattle.layout_solver.specs.Starts.{attrs_of}
 use Rattle.layout_solver.proofs.ApartValues.{all_read, stay_valued}
-use Rattle.layout_solver.proofs.StayNumbers.{numbers_held, stays_there}
+use Rattle.problem_core.proofs.StayNumbers.{numbers_held, stays_there}
 use Rattle.conflict_core.specs.Cores.{trial}
 use Rattle.conflict_core.specs.Shown.{IsSolution}
 use Rattle.conflict_core.proofs.TrialWhole.{trial_attrs}

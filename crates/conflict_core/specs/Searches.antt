@@ -1,10 +1,10 @@
 -- On the way to a core.
-use Rattle.std.specs.Prelude.{◌≡◌, ℕ, ◌-◌, ◌<◌, List, [], ◌∷◌, take, length, map, All, AllPairs, get_or}
-use Rattle.std.specs.List.Sorted.{IsPermutation}
+use Rattle.std.specs.Prelude.{◌≡◌, ℕ, ◌-◌, ◌<◌, List, [], ◌∷◌, take, length, map, All, get_or}
 use Rattle.frac_core.specs.Fraction.{Fraction}
 use Rattle.problem_core.specs.declared.parts.RowName.{RowName}
 use Rattle.problem_core.specs.declared.parts.RowName.TheVariants.{Held, Stay as StayOf}
 use Rattle.problem_core.specs.Layout.{Problem}
+use Rattle.problem_core.specs.Numbers.{AreNumbersOf}
 use Rattle.cert_core.specs.declared.by.By.{By}
 use Rattle.cert_core.specs.Stops.{IsShownConflict}
 use Rattle.layout_solver.specs.Starts.{attrs_of}
@@ -13,15 +13,10 @@ use Rattle.conflict_core.specs.Shown.{DoWithout}
 use Rattle.conflict_core.specs.declared.search.Search.{Search}
 use Rattle.conflict_core.specs.declared.trials.Trials.{Trials}
 
--- the attributes are those of the problem, by rising number
-pub record AreNumbersOf (p : Problem) (attrs : List ℕ) : Type 0 where
-  pub same : IsPermutation (attrs_of p) attrs
-  pub rising : AllPairs (λ a b. a < b) attrs
-
 -- the attributes are those of the problem, in its order and by number
 pub record AreTrials (t : Trials) : Type 0 where
   pub attrs : t.attrs.now ≡ attrs_of t.problem.now
-  pub numbers : AreNumbersOf t.problem.now t.numbers.now
+  pub numbers : AreNumbersOf t.problem.now.stays t.numbers.now
 
 -- the row's number in front of these, where it is no stay's row
 abbrev pub numbered : RowName → List ℕ → List ℕ

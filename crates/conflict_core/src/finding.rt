@@ -9,14 +9,14 @@ ghost use Rattle.conflict_core.specs.Searches.{AreTrials};
 ghost use Rattle.conflict_core.specs.Trials.{IsCoreStop, nothing};
 
 use crate::found::{CoreStop, Found};
-use crate::listing::{attributes, numbers, required_rows};
+use crate::listing::{attributes, required_rows};
 use crate::nearby::{Known, asked};
 use crate::search::{begun, searched};
 use crate::trials::{Outcome, Trials, tried};
 use crate::yielding::hasten;
 use cert_core::Conflict;
 use layout_solver::Engine;
-use problem_core::Problem;
+use problem_core::{Problem, numbers_of};
 use std::alloc::Global;
 
 // A core of the rows that these multipliers name, which refute some required rows.
@@ -85,7 +85,7 @@ pub fn core(alloc: Global, p: &Problem, budget: u64) -> Result<Found, CoreStop>
 {
     p.show_whole(); // for the proof: what a problem keeps
     let attrs = attributes(alloc, p)?;
-    let numbers = numbers(alloc, p)?;
+    let numbers = numbers_of(alloc, p.stays())?;
     let all = required_rows(alloc, p)?;
     let trials = Trials {
         problem: p,
@@ -107,7 +107,7 @@ pub fn core_among(alloc: Global, p: &Problem, by: Conflict, budget: u64) -> Resu
 {
     p.show_whole(); // for the proof: what a problem keeps
     let attrs = attributes(alloc, p)?;
-    let numbers = numbers(alloc, p)?;
+    let numbers = numbers_of(alloc, p.stays())?;
     let trials = Trials {
         problem: p,
         attrs: &attrs,

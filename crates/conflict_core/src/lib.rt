@@ -27,9 +27,9 @@
 //! way in turn by a change of two constants ([`layout_solver::Engine::shift`]), which takes few exchanges or
 //! none. Where that stops, the trials go on.
 //!
-//! The first trial is the dearest. Who has multipliers already spares it ([`core_among`]), and so does who has
-//! an engine that holds most of the rows ([`core_near`]): from its corner the path to what it lacks is short,
-//! and ends at values or at multipliers. The engine is as before, and what it names is checked.
+//! The first trial is the dearest. Who has multipliers already spares it ([`core_among`]), and so does who
+//! has an engine that holds most of the rows ([`core_near`]): from its corner the path to what it lacks is
+//! short, and ends at values or at multipliers. The engine is as before, and what it names is checked.
 //!
 //! | Clause | Says |
 //! |---|---|

@@ -1,7 +1,6 @@
 // Lists of what a problem has, and of what multipliers name.
 ghost use Rattle.std.specs.Prelude.{◌≡◌, ◌<◌, ◌++◌, map, filter, [], ◌∷◌, AllPairs, IfOk};
 ghost use Rattle.problem_core.specs.Certificates.{required};
-ghost use Rattle.problem_core.specs.Kept.{IsWhole};
 ghost use Rattle.layout_solver.specs.Starts.{attrs_of};
 ghost use Rattle.conflict_core.specs.Cores as cores;
 ghost use Rattle.conflict_core.specs.Searches as searches;
@@ -19,16 +18,6 @@ pub(crate) fn attributes(alloc: Global, p: &Problem) -> Result<Vec<u32>, OutOfMe
     for stay in p.stays() {
         out.push(stay.attr)?;
     }
-    Ok(out)
-}
-
-/// The attributes, by number.
-pub(crate) fn numbers(alloc: Global, p: &Problem) -> Result<Vec<u32>, OutOfMemory>
-    requires { IsWhole p.now }
-    ensures { IfOk result (λ attrs. searches.AreNumbersOf p.now attrs.items) }
-{
-    let mut out = attributes(alloc, p)?;
-    out.sort_unstable();
     Ok(out)
 }
 

@@ -1,6 +1,6 @@
 // What an engine says of a problem, most of whose rows it holds.
-ghost use Rattle.std.specs.Prelude.{◌≡◌, ◌+◌, ◌<◌, ◌≤◌, ◌++◌, ◌∷◌, [], length, filter, All, AllPairs, Any, IsTrue};
-ghost use Rattle.std.specs.Prelude.{IfOk, IfSome};
+ghost use Rattle.std.specs.Prelude.{◌≡◌, ◌+◌, ◌<◌, ◌≤◌, ◌++◌, ◌∷◌, [], length, filter, All, AllPairs};
+ghost use Rattle.std.specs.Prelude.{Any, IsTrue, IfOk, IfSome};
 ghost use Rattle.frac_core.specs.Fraction.{IsKept};
 ghost use Rattle.problem_core.specs.declared.limits.TheConstants.{REQUIRED, ROW_LIMIT};
 ghost use Rattle.problem_core.specs.Kept.{IsWhole};

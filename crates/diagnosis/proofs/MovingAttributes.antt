@@ -1,19 +1,19 @@
 -- The attributes that move, one more at a time.
-use Rattle.std.proofs.Common.{◌≡◌, ◌≢◌, ◌∙◌, ℕ, ◌+◌, ◌<◌, ◌≤◌, List, [], ◌∷◌, ◌++◌, length, take, get_or, refl, sym, ap, subst, arith, map, All, AllPairs, Contains, IsPermutation, IsSorted, append-nil}
-use Rattle.std.proofs.lemmas.List.{get_or-take, get_or_default, length-take-le, take_all, take_more}
-use Rattle.std.proofs.lemmas.List.Elements.{All-contains, All-nil, All-push, All-weaker, Contains-append_left, Contains-get_or, Contains-push}
+use Rattle.std.proofs.Common.{◌≡◌, ◌≢◌, ◌∙◌, ℕ, ◌+◌, ◌<◌, List, [], ◌∷◌, ◌++◌, length, take, get_or, refl, sym, ap, subst, arith, All, AllPairs, Contains, append-nil}
+use Rattle.std.proofs.lemmas.List.{get_or-take, get_or_default, length-take-le, take_more}
+use Rattle.std.proofs.lemmas.List.Elements.{All-contains, All-nil, All-push, All-weaker, Contains-append_left, Contains-push}
 use Rattle.std.proofs.lemmas.List.Quantifiers.{all_pairs_push}
-use Rattle.std.specs.Ordering.{nat_cmp}
 use Rattle.frac_core.specs.Fraction.{Fraction}
 use Rattle.problem_core.specs.declared.parts.Stay.{Stay}
 use Rattle.problem_core.specs.Layout.{HasStay, Problem}
 use Rattle.problem_core.specs.Gaps.{value_of}
+use Rattle.problem_core.specs.Numbers.{AreNumbersOf}
+use Rattle.problem_core.proofs.StayNumbers.{is_held, is_there}
 use Rattle.layout_solver.specs.Layouts.{Layout}
-use Rattle.layout_solver.proofs.StayNumbers.{held_there, numbers_held, numbers_rise}
 use Rattle.diagnosis.specs.declared.probing.Answer.{Answer}
 use Rattle.diagnosis.specs.declared.probing.Answer.TheVariants.{Fixed, Moves}
 use Rattle.diagnosis.specs.Ambiguity.{IsAmbiguous}
-use Rattle.diagnosis.specs.Probes.{AreMoving, AreMovingAmong, AreNumbersOf, CanProbe, CanProbeAll, IsAnswer, listed}
+use Rattle.diagnosis.specs.Probes.{AreMoving, AreMovingAmong, CanProbe, CanProbeAll, IsAnswer, listed}
 use Rattle.diagnosis.proofs.UnmetRows.{front-all}
 
 -- ---- one more
@@ -91,23 +91,7 @@ can_of l attr can (i, s, within, is, same) = subst (CanProbe l) (ap (λ (t : Sta
 pub moving_of : (p : Problem) (values : List (ℕ × Fraction)) (attrs : List ℕ) (moving : List (ℕ × Fraction)) → AreNumbersOf p.stays attrs → AreMovingAmong p values attrs moving → AreMoving p values p.stays moving
 moving_of p values attrs moving are_all are = record {
   answers = are.answers;
-  among = All-weaker (λ m. Contains attrs m.0) (λ m. HasStay p.stays m.0) (λ m. (are_all.same m.0).0) moving are.among;
+  among = All-weaker (λ m. Contains attrs m.0) (λ m. HasStay p.stays m.0) (λ m. is_held p.stays attrs are_all m.0) moving are.among;
   rising = are.rising;
-  all = λ i s within. All-contains (λ a. All (λ m. m.0 ≢ a) moving → IsAmbiguous p a → ⊥) attrs (get_or p.stays i s).attr are.all ((are_all.same (get_or p.stays i s).attr).1 (i, get_or p.stays i s, within, get_or_default p.stays i (get_or p.stays i s) s within, refl));
+  all = λ i s within. All-contains (λ a. All (λ m. m.0 ≢ a) moving → IsAmbiguous p a → ⊥) attrs (get_or p.stays i s).attr are.all (is_there p.stays attrs are_all (get_or p.stays i s).attr (i, get_or p.stays i s, within, get_or_default p.stays i (get_or p.stays i s) s within, refl));
 }
-
--- all have been read
-pub all_attributes : (stays : List Stay) (attrs : List ℕ) (i : ℕ) → length stays ≤ i → attrs ≡ map (λ s. s.attr) (take i stays) → attrs ≡ map (λ s. s.attr) stays
-all_attributes stays attrs i past are = are ∙ ap (λ (ss : List Stay). map (λ s. s.attr) ss) (take_all i stays past)
-
--- the stays' attributes, sorted, are their numbers
-pub sorted_numbers : (stays : List Stay) (listed_all numbers : List ℕ) → AllPairs (λ s t. s.attr ≢ t.attr) stays → listed_all ≡ map (λ s. s.attr) stays → IsPermutation listed_all numbers → IsSorted nat_cmp numbers → AreNumbersOf stays numbers
-sorted_numbers stays all numbers apart are permuted sorted =
-    let same : IsPermutation (map (λ (s : Stay). s.attr) stays) numbers = subst (λ (ns : List ℕ). IsPermutation ns numbers) are permuted in
-    record {
-      rising = numbers_rise stays numbers same apart sorted;
-      same = λ a. (All-contains (HasStay stays) numbers a (numbers_held stays numbers same), held_there stays numbers same a);
-    }
-
-pub numbers_all : (stays : List Stay) (numbers : List ℕ) → AreNumbersOf stays numbers → All (HasStay stays) numbers
-numbers_all stays numbers are k d within = (are.same (get_or numbers k d)).0 (Contains-get_or numbers k d within)

@@ -7,15 +7,11 @@ use Rattle.frac_core.specs.Fraction.{Fraction}
 use Rattle.frac_core.proofs.Integers.{cancel_mul, mul_assoc_ℤ, zero-mul_ℤ}
 use Rattle.problem_core.specs.Layout.{Assignment, Problem}
 use Rattle.diagnosis.specs.Ambiguity.{GoesAbove, GoesBelow, IsAbove, IsAmbiguous, IsBelow, IsGreatestUp, IsLeastDown, IsLooselyBest, IsMove, Reaches}
+use Rattle.diagnosis.specs.Probes.{IsNearest, place}
 use Rattle.diagnosis.proofs.Mixes.{mix, mix_reaches}
 use Rattle.diagnosis.proofs.Loosely.{mix_loosely}
-use Rattle.diagnosis.proofs.Positions.{IsLast, IsNext, above_place, below_place, down_to_last, last_from, next_from, place, reached_high, reached_low, up_to_next}
+use Rattle.diagnosis.proofs.Positions.{IsLast, IsNext, above_place, below_place, down_to_last, last_from, next_from, reached_high, reached_low, up_to_next}
 use Rattle.frac_core.proofs.Numbers.{low-not-zero as no-zero-low, up-not-zero as no-zero-high, as-natural as natural-high, low-or-up, up-or-low, swap-last as turn-last}
-
--- no loosely best assignment is nearer to t
-pub record IsNearest (p : Problem) (attr : ℕ) (t : Fraction) (x : Assignment) : Type 0 where
-  pub loosely : IsLooselyBest p x
-  pub none : (y : Assignment) → IsLooselyBest p y → unsigned_abs (place attr t y) * x.den < unsigned_abs (place attr t x) * y.den → ⊥
 
 -- ---- signs and sizes
 

@@ -4,14 +4,11 @@ use borrow.Author.Differences.{ints}
 use Rattle.frac_core.proofs.Integers.{add-mul_right, diff-add, diff-mul, diff-neg, diff-pos, diff_eq, mul-sub_left, mul-zero_ℤ, mul_positive, neg-pos, on_2, positive_from}
 use Rattle.frac_core.specs.Fraction.{Fraction}
 use Rattle.problem_core.specs.Layout.{Assignment}
+use Rattle.diagnosis.specs.Probes.{place}
 use Rattle.diagnosis.specs.Ambiguity.{IsAbove, IsBelow, IsDownToLast, IsUpToNext, Reaches}
 use Rattle.frac_core.proofs.Numbers.{sub-mul_right as sub-right, product-above as product-up}
 
 ruleset ring = (diff-add, diff-mul, diff-neg, diff-pos, neg-pos)
-
--- how far the attribute is above the fraction, over both denominators
-abbrev pub place : ℕ → Fraction → Assignment → ℤ
-place attr t x = x.num attr *ℤ pos t.den -ℤ t.num *ℤ pos x.den
 
 -- ---- orders of multiples
 

@@ -1,25 +1,25 @@
 -- Probes: the row that is added, what is answered, and why a probe stops.
 use Rattle.std.specs.Prelude.{◌≡◌, ℕ, ◌+◌, ◌<◌, Bool, true, false, List, [], ◌∷◌, length, ℤ, pos, ◌+ℤ◌}
-use Rattle.std.specs.Prelude.{◌≢◌, ◌↔◌, ◌-ℤ◌, ◌*ℤ◌, All, AllPairs, Contains}
+use Rattle.std.specs.Prelude.{◌≢◌, ◌*◌, ◌-ℤ◌, ◌*ℤ◌, ◌≤ℤ◌, negsuc, unsigned_abs, All, AllPairs, Contains}
 use Rattle.problem_core.specs.declared.parts.Stay.{Stay}
-use Rattle.frac_core.specs.Fraction.{Fraction, IsKept, IsLowest, IsUnfitRatio}
+use Rattle.frac_core.specs.Fraction.{Fraction, IsKept, IsLowest, IsRatio, IsUnfitRatio, sum_den, sum_num}
 use Rattle.problem_core.specs.declared.limits.TheConstants.{NUMBER_LIMIT, ROW_LIMIT}
-use Rattle.problem_core.specs.declared.parts.Rel.TheVariants.{Eq}
-use Rattle.problem_core.specs.Layout.{HasStay, Problem, Row}
-use Rattle.problem_core.specs.Kept.{IsWhole}
+use Rattle.problem_core.specs.declared.parts.Rel.{Rel}
+use Rattle.problem_core.specs.declared.parts.Rel.TheVariants.{Eq, Ge, Le}
+use Rattle.problem_core.specs.Layout.{Assignment, HasStay, Problem, Row}
 use Rattle.problem_core.specs.Gaps.{value_of}
 use Rattle.cert_core.specs.Stops.{IsStopOf}
 use Rattle.cert_core.specs.declared.stops.RunStop.{RunStop}
 use Rattle.cert_core.specs.declared.stops.RunStop.TheVariants as run
 use Rattle.version_list.specs.declared.TheConstants.{VERSION_LIMIT}
 use Rattle.corner.specs.Changes.{FromAdded}
-use Rattle.layout_solver.specs.Layouts.{IsBestValue, Layout, with_added}
+use Rattle.layout_solver.specs.Layouts.{Layout, with_added}
 pub use Rattle.layout_solver.specs.Keeping.{NoConflict}
 use Rattle.diagnosis.specs.declared.probing.Answer.{Answer}
 use Rattle.diagnosis.specs.declared.probing.Answer.TheVariants.{Fixed, Moves}
 use Rattle.diagnosis.specs.declared.probing.DiagnoseStop.{DiagnoseStop}
 use Rattle.diagnosis.specs.declared.probing.DiagnoseStop.TheVariants.{Unfit, Spent, Target, OutOfMemory}
-use Rattle.diagnosis.specs.Ambiguity.{GoesAbove, IsAmbiguous, IsMove}
+use Rattle.diagnosis.specs.Ambiguity.{GoesAbove, IsAmbiguous, IsLooselyBest, IsMove, Reaches}
 
 -- the attribute is held, there is room for a row more, a number for it, and room for an earlier layout more,
 -- and no row has the rank of a probe
@@ -36,17 +36,26 @@ next_number [] = 1
 next_number (r ∷ []) = r.id + 1
 next_number (r ∷ (s ∷ rows)) = next_number (s ∷ rows)
 
--- the row `attr == f` of rank 0
-abbrev pub probe_row : Layout → ℕ → Fraction → Row
-probe_row l attr f = record {
-  id = next_number l.problem.rows;
+-- a row of rank 0 that wishes the attribute at f, at least f or at most f
+abbrev pub wish_row : ℕ → ℕ → Rel → Fraction → Row
+wish_row id attr rel f = record {
+  id = id;
   rank = 0;
   weight = 1;
-  rel = Eq;
+  rel = rel;
   scale = 1;
   constant = f;
   terms = record { attr = attr; by = pos 1 } ∷ [];
 }
+
+-- the row `attr == f` of rank 0
+abbrev pub probe_row : Layout → ℕ → Fraction → Row
+probe_row l attr f = wish_row (next_number l.problem.rows) attr Eq f
+
+-- on the way up the attribute is to be at least so much, on the way down at most
+abbrev pub side : Bool → Rel
+side true = Ge
+side false = Le
 
 -- the problem with the probe row
 abbrev pub with_probe : Layout → ℕ → Fraction → Problem
@@ -60,6 +69,30 @@ next_num false v = v.num -ℤ pos v.den
 -- f is v + 1, or v - 1
 abbrev pub IsBeside : Bool → Fraction → Fraction → Type 0
 IsBeside up v f = f.num *ℤ pos v.den ≡ next_num up v *ℤ pos f.den
+
+-- what the second is above the first fits
+abbrev pub IsNearTo : Fraction → Fraction → Type 0
+IsNearTo from to = (more : Fraction) × IsKept more
+    × IsRatio more (sum_num to (negsuc 0) (pos 1) from) (sum_den to (pos 1) from)
+
+-- f is at or before t on the way
+abbrev pub IsNoFurther : Bool → Fraction → Fraction → Type 0
+IsNoFurther true t f = (f.num *ℤ pos t.den) ≤ℤ (t.num *ℤ pos f.den)
+IsNoFurther false t f = (t.num *ℤ pos f.den) ≤ℤ (f.num *ℤ pos t.den)
+
+-- how far the attribute is above the fraction, over both denominators
+abbrev pub place : ℕ → Fraction → Assignment → ℤ
+place attr t x = x.num attr *ℤ pos t.den -ℤ t.num *ℤ pos x.den
+
+-- no loosely best assignment is nearer to t
+pub record IsNearest (p : Problem) (attr : ℕ) (t : Fraction) (x : Assignment) : Type 0 where
+  pub loosely : IsLooselyBest p x
+  pub none : (y : Assignment) → IsLooselyBest p y
+      → unsigned_abs (place attr t y) * x.den < unsigned_abs (place attr t x) * y.den → ⊥
+
+-- a loosely best assignment to which none is nearer gives the attribute this value
+abbrev pub IsNearestValue : Problem → ℕ → Fraction → Fraction → Type 0
+IsNearestValue p attr t f = (x : Assignment) × IsNearest p attr t x × Reaches x attr f
 
 -- ---- answers
 
@@ -75,10 +108,10 @@ IsProbeStop l attr up budget stop = (f : Fraction) × IsBeside up (value_of l.va
     × IsStopOf false (with_probe l attr f) l.problem.rows
     (FromAdded (with_probe l attr f) l.corner (probe_row l attr f ∷ [])) budget stop
 
--- the attribute's best value with the row of such a probe
+-- the value nearest to what such a probe wishes
 abbrev pub IsTried : Layout → ℕ → Bool → Fraction → Type 0
-IsTried l attr up value = (f : Fraction) × IsBeside up (value_of l.values attr) f × IsKept f
-    × IsWhole (with_probe l attr f) × IsBestValue (with_probe l attr f) attr value
+IsTried l attr up f = (t : Fraction) × IsBeside up (value_of l.values attr) t × IsKept t
+    × IsNearestValue l.problem attr t f
 
 -- ---- stops
 
@@ -125,11 +158,6 @@ pub record AreMoving (p : Problem) (values : List (ℕ × Fraction)) (stays : Li
   pub among : All (λ m. HasStay stays m.0) moving
   pub rising : AllPairs (λ m n. m.0 < n.0) moving
   pub all : All (λ s. All (λ m. m.0 ≢ s.attr) moving → IsAmbiguous p s.attr → ⊥) stays
-
--- the attributes are those of these stays, by number
-pub record AreNumbersOf (stays : List Stay) (attrs : List ℕ) : Type 0 where
-  pub rising : AllPairs (λ a b. a < b) attrs
-  pub same : (attr : ℕ) → Contains attrs attr ↔ HasStay stays attr
 
 -- the same of attributes
 pub record AreMovingAmong (p : Problem) (values : List (ℕ × Fraction)) (attrs : List ℕ)

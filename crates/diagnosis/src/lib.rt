@@ -3,7 +3,11 @@
 //! Where the stays are left out, several assignments may be best. [`ambiguous`] tells whether they differ at
 //! an attribute, and how far they reach from its value, up to a point above, or else down to a point below.
 //! It asks by a probe: one more row, weaker than all others but the stays, that wishes the attribute at the
-//! next value. [`all_ambiguous`] asks for every attribute. [`unmet`] lists the rows that are not required and
+//! next value. First that row asks only that the attribute be at least at the value behind its own (or at
+//! most, on the way down), which costs nothing, and then its constant becomes the next value: a dual run,
+//! in which a stay whose side turns gives way at once. Where something stops that, or it ends beyond the
+//! next value, the row joins that wishes the attribute just there, and a stop has the path of its run.
+//! [`all_ambiguous`] asks for every attribute. [`unmet`] lists the rows that are not required and
 //! do not hold, each with what it lacks.
 //!
 //! ```

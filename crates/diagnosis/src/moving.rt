@@ -1,13 +1,13 @@
 // The attributes that move.
-ghost use Rattle.std.specs.Prelude.{◌≡◌, ◌≢◌, ◌<◌, ◌++◌, ◌∷◌, [], ℕ, List, All, AllPairs, IfOk, IfErr};
+ghost use Rattle.std.specs.Prelude.{◌≡◌, ◌<◌, ◌++◌, ◌∷◌, [], ℕ, List, All, AllPairs, IfOk, IfErr};
 ghost use Rattle.problem_core.specs.Layout.{HasStay};
-ghost use Rattle.diagnosis.specs.Probes.{AreMoving, AreMovingAmong, AreNumbersOf, CanProbeAll, IsStopAt};
+ghost use Rattle.diagnosis.specs.Probes.{AreMoving, AreMovingAmong, CanProbeAll, IsStopAt};
 ghost use Rattle.diagnosis.specs.Probes.{listed};
 
 use crate::probing::{Answer, DiagnoseStop, Stopped, ambiguous};
 use frac_core::{Frac, OutOfMemory};
 use layout_solver::Engine;
-use problem_core::Stay;
+use problem_core::numbers_of;
 use std::alloc::Global;
 
 // Appends an attribute that moves, with the value that it reaches.
@@ -21,19 +21,6 @@ fn push_answer(out: &mut Vec<(u32, Frac)>, attr: u32, answer: Answer) -> Result<
             Ok(())
         }
     }
-}
-
-// The attributes of the stays, by number.
-fn numbers_of(alloc: Global, stays: &[Stay]) -> Result<Vec<u32>, OutOfMemory>
-    requires { AllPairs (λ s t. s.attr ≢ t.attr) stays.now }
-    ensures { IfOk result (λ attrs. AreNumbersOf stays.now attrs.items) }
-{
-    let mut attrs = Vec::with_capacity(alloc, stays.len())?;
-    for stay in stays {
-        attrs.push(stay.attr)?;
-    }
-    attrs.sort_unstable();
-    Ok(attrs)
 }
 
 // Appends the attribute, where it moves, with the value that it reaches.

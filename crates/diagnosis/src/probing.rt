@@ -4,15 +4,18 @@ ghost use Rattle.std.specs.Prelude.{IfOk, IfErr, IfSome, IfNone};
 ghost use Rattle.frac_core.specs.Fraction.{IsKept, IsUnfitRatio};
 ghost use Rattle.problem_core.specs.declared.limits.TheConstants.{NUMBER_LIMIT};
 ghost use Rattle.problem_core.specs.Gaps.{value_of};
+ghost use Rattle.problem_core.specs.Kept.{IsRow};
 ghost use Rattle.diagnosis.specs.Probes as probes;
-ghost use Rattle.diagnosis.specs.Probes.{CanProbe, IsAnswer, IsBeside, IsDiagnoseStop, IsStopped, IsTried};
-ghost use Rattle.diagnosis.specs.Probes.{NoConflict, next_num, turned};
+ghost use Rattle.diagnosis.specs.Probes.{CanProbe, IsAnswer, IsBeside, IsDiagnoseStop, IsNearTo, IsNearestValue};
+ghost use Rattle.diagnosis.specs.Probes.{IsNoFurther, IsStopped, IsTried};
+ghost use Rattle.diagnosis.specs.Probes.{NoConflict, next_num, side, turned, wish_row};
 
 use cert_core::{Path, RunStop, UnfitPath};
 use frac_core::{Frac, OutOfMemory, Unfit};
-use layout_solver::Engine;
+use layout_solver::{Change, Engine};
 use problem_core::{Rel, Row, Term};
 use std::alloc::Global;
+use std::cmp::Ordering;
 use thiserror::Error;
 
 /// What is said of an attribute.
@@ -110,6 +113,110 @@ fn stop_of(up: bool, stop: RunStop) -> DiagnoseStop
     }
 }
 
+// The row that wishes the attribute at a value.
+fn wish(alloc: Global, id: u32, attr: u32, rel: Rel, at: Frac) -> Result<Row, OutOfMemory>
+    requires { IsRow (wish_row id attr rel at) }
+    ensures { IfOk result (λ row. row ≡ wish_row id attr rel at) }
+{
+    let terms = [Term { attr, by: 1 }];
+    Row::of(alloc, id, 0, 1, rel, 1, at, &terms)
+}
+
+// Whether the second value less the first fits.
+fn is_near(from: Frac, to: Frac) -> bool
+    ensures { result ≡ true → IsNearTo from to }
+{
+    match Frac::mul_add(to, -1, 1, from) {
+        Ok(_) => true,
+        Err(Unfit) => false,
+    }
+}
+
+// Whether the value is beyond the target.
+fn is_past(value: Frac, target: Frac, up: bool) -> bool
+    ensures { result ≡ false → IsNoFurther up target value }
+{
+    let past = if up {
+        Ordering::Greater
+    } else {
+        Ordering::Less
+    };
+    value.compare(&target) == past
+}
+
+// How the attribute is to be on the way.
+fn side_of(up: bool) -> Rel
+    ensures { result ≡ side up }
+{
+    if up { Rel::Ge } else { Rel::Le }
+}
+
+// The value that the attribute takes on the way to the target, a point above its own or below, where that is
+// found by one change of a constant: a row that asks for no more than a value behind its own joins without
+// cost, and asks for the target then. `None` where something stops that.
+fn pushed(
+    alloc: Global,
+    e: &mut Engine,
+    attr: u32,
+    up: bool,
+    target: Frac,
+    budget: u64,
+) -> Option<Frac>
+    requires can { CanProbe e.old attr }
+    requires target { IsKept target }
+    ensures value { IfSome result (IsNearestValue e.old.problem attr target) }
+    ensures kept { IfSome result IsKept }
+    ensures same { e.new ≡ e.old }
+{
+    e.show_layout(); // for the proof: what an engine keeps
+    let behind = next_value(e.value_at(attr), !up)?;
+    if !is_near(behind, target) {
+        return None;
+    }
+    let number = next_number(e.rows());
+    let Ok(row) = wish(alloc, number, attr, side_of(up), behind) else {
+        return None;
+    };
+    let to = Change {
+        row: number,
+        constant: target,
+    };
+    let value = e.value_after(&[row], to, attr, budget)?;
+    let _ = value.num(); // for the proof: what a fraction keeps
+    if is_past(value, target, up) {
+        return None;
+    }
+    Some(value)
+}
+
+// The value that the attribute takes where one is wished at the target.
+fn drawn(
+    alloc: Global,
+    e: &mut Engine,
+    attr: u32,
+    up: bool,
+    target: Frac,
+    budget: u64,
+) -> Result<Frac, DiagnoseStop>
+    requires can { CanProbe e.old attr }
+    requires target { IsKept target }
+    requires beside { IsBeside up (value_of e.old.values attr) target }
+    ensures value { IfOk result (IsNearestValue e.old.problem attr target) }
+    ensures kept { IfOk result IsKept }
+    ensures stop { IfErr result (IsStopped e.old attr up budget) }
+    ensures same { e.new ≡ e.old }
+{
+    e.show_layout(); // for the proof: what an engine keeps
+    let row = wish(alloc, next_number(e.rows()), attr, Rel::Eq, target)?;
+    match e.value_with(&[row], attr, budget) {
+        Ok(value) => {
+            let _ = value.num(); // for the proof: what a fraction keeps
+            Ok(value)
+        }
+        Err(stop) => Err(stop_of(up, stop)),
+    }
+}
+
 // The value that the attribute takes where one is wished a point above its own, or below.
 fn probe(
     alloc: Global,
@@ -128,24 +235,10 @@ fn probe(
     let Some(target) = next_value(e.value_at(attr), up) else {
         return Err(DiagnoseStop::Target { up });
     };
-    let terms = [Term { attr, by: 1 }];
-    let row = Row::of(
-        alloc,
-        next_number(e.rows()),
-        0,
-        1,
-        Rel::Eq,
-        1,
-        target,
-        &terms,
-    )?;
-    match e.value_with(&[row], attr, budget) {
-        Ok(value) => {
-            let _ = value.num(); // for the proof: what a fraction keeps
-            Ok(value)
-        }
-        Err(stop) => Err(stop_of(up, stop)),
+    if let Some(value) = pushed(alloc, e, attr, up, target, budget) {
+        return Ok(value);
     }
+    drawn(alloc, e, attr, up, target, budget)
 }
 
 // Whether the two values are equal.

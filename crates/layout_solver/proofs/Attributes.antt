@@ -20,7 +20,7 @@ IsOf attr f v = (v.0 ≡ attr) × (v.1 ≡ f)
 later : (attr : ℕ) (f : Fraction) (w : ℕ × Fraction) (values : List (ℕ × Fraction)) → Any (IsOf attr f) values → Any (IsOf attr f) (w ∷ values)
 later attr f w values (k, v, within, is, h) = (suc k, v, omega (arith, within), is, h)
 
-find : (attr : ℕ) (f : Fraction) (stays : List Stay) (values : List (ℕ × Fraction)) → map (λ v. v.0) values ≡ map (λ s. s.attr) stays → HasStay stays attr → Each (λ v. v.0 ≡ attr → v.1 ≡ f) values → Any (IsOf attr f) values
+pub find : (attr : ℕ) (f : Fraction) (stays : List Stay) (values : List (ℕ × Fraction)) → map (λ v. v.0) values ≡ map (λ s. s.attr) stays → HasStay stays attr → Each (λ v. v.0 ≡ attr → v.1 ≡ f) values → Any (IsOf attr f) values
 find attr f [] values e (k, t, within, is, h) same = absurd (omega (arith, within))
 find attr f (s ∷ stays) [] e has same = cc
 find attr f (s ∷ stays) (v ∷ values) e (zero, t, within, is, h) same =

@@ -10,9 +10,9 @@ pub mod Standing
 pub mod Shown
 pub mod BestValues
 pub mod ApartValues
-pub mod SortedNumbers
-pub mod StayNumbers
+pub mod FrontStays
 pub mod UniqueBest
 pub mod AtTargets
 pub mod Reordered
 pub mod KeptOrders
+pub mod MovedValues

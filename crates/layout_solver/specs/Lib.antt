@@ -7,3 +7,4 @@ pub mod Shifts
 pub mod Removals
 pub mod Keeping
 pub mod Instances
+pub mod Moves

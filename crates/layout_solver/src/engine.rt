@@ -1,4 +1,6 @@
 // The engine: a problem with its best values and the corner where they stand, and earlier ones to go back to.
+mod moved;
+
 ghost use Rattle.std.specs.Prelude.{◌≡◌, ◌≢◌, ◌<◌, ◌-◌, ℕ, [], ◌∷◌, true, false, length, take};
 ghost use Rattle.std.specs.Prelude.{All, AllPairs, Any, IfOk, IfErr, IfSome, IfNone, OnErr};
 ghost use Rattle.frac_core.specs.Fraction.{IsKept, IsLowest};
@@ -12,7 +14,9 @@ ghost use Rattle.cert_checker.specs.Certifying.{EachGiven};
 ghost use Rattle.certificates.specs.Accepted.{IsCertified};
 ghost use Rattle.certificates.specs.Errors.{IsErrorAt, IsLevelCost};
 ghost use Rattle.certificates.specs.OwnLevels.{IsOwnBest};
+ghost use Rattle.corner_lines.specs.Shifts.{with_constant};
 ghost use Rattle.corner.specs.Changes.{FromAdded, scene_of};
+ghost use Rattle.corner.specs.Shifts.Shifting.{IsNear};
 ghost use Rattle.corner_ends.specs.Runs.{FromHere, IsRun};
 ghost use Rattle.version_list.specs.declared.TheConstants.{VERSION_LIMIT};
 ghost use Rattle.layout_solver.specs.Layouts.{AreApart, AreBest, IsBestValue, IsKeptLayout};
@@ -30,7 +34,7 @@ use crate::keeping::reorder;
 use crate::reading::{has_level, has_stay, row_of};
 use crate::removing::{RemoveStop, shrink};
 use crate::shifting::alter;
-use crate::trying::tried;
+use crate::trying::{pushed, tried};
 use cert_core::{Best, RunStop};
 use certificates::{certificate, error};
 use corner::Corner;
@@ -252,6 +256,24 @@ impl Engine {
     {
         self.corner.mark();
         let result = tried(self.alloc, &mut self.corner, rows, attr, budget);
+        self.corner.back();
+        result
+    }
+
+    /// The value that the attribute would have if rows joined and one row had another constant, with the
+    /// stays at the present values. The rows join first, and the constant changes then: where the rows join
+    /// without cost, this is one dual run. `None` where something stops either run. The engine is as before.
+    pub fn value_after(&mut self, rows: &[Row], to: Change, attr: u32, budget: u64) -> Option<Frac>
+        requires room { length self.old.earlier < VERSION_LIMIT }
+        requires whole { IsWhole (with_added self.old [] rows.now) }
+        requires near { IsNear (with_added self.old [] rows.now) to.row to.constant }
+        requires attr { HasStay self.old.problem.stays attr }
+        ensures value { IfSome result
+            (IsBestValue (with_constant to.row to.constant (with_added self.old [] rows.now)) attr) }
+        ensures same { self.new ≡ self.old }
+    {
+        self.corner.mark();
+        let result = pushed(self.alloc, &mut self.corner, rows, to, attr, budget);
         self.corner.back();
         result
     }

@@ -18,6 +18,9 @@ use frac_core::{Frac, OutOfMemory, Stop};
 use problem_core::{Quantity, Row, RowName};
 use std::alloc::Global;
 
+// Most changes turn fewer values negative.
+const LOW_ROOM: usize = 16;
+
 // The constant of a row.
 fn constant_of(rows: &[Row], id: u32) -> Frac
     requires held { Any (λ r. r.id ≡ id) rows.now }
@@ -53,6 +56,14 @@ fn shifts_stop(alloc: Global, c: &Corner, quantity: Quantity, changed: u32) -> R
         }),
         Err(OutOfMemory) => RunStop::OutOfMemory,
     }
+}
+
+// A list of no line, with room for some.
+fn no_line(alloc: Global) -> Result<Vec<RowName>, OutOfMemory>
+    ensures { IfOk result (λ low. low.items ≡ []) }
+{
+    let low = Vec::with_capacity(alloc, LOW_ROOM)?;
+    Ok(low)
 }
 
 // Gives rows other constants, one by one, and lists the lines whose values are negative with them. A
@@ -124,7 +135,7 @@ pub(crate) fn alter(
     c.show_corner(); // for the proof: what a corner keeps
     c.stand()?;
     c.show_corner(); // for the proof: what a corner keeps
-    let mut low = Vec::new(alloc);
+    let mut low = no_line(alloc)?;
     shift_all(alloc, c, &mut low, to)?;
     restore(alloc, c, low, budget)
 }

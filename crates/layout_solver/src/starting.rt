@@ -1,7 +1,8 @@
 // The best corner of a problem, found anew.
-ghost use Rattle.std.specs.Prelude.{◌≡◌, ◌<◌, [], length, false, IfOk, IfErr};
+ghost use Rattle.std.specs.Prelude.{◌≡◌, ◌<◌, ◌+◌, [], length, take, false, IfOk, IfErr, IfSome};
 ghost use Rattle.problem_core.specs.Layout as layout;
 ghost use Rattle.problem_core.specs.Kept.{IsWhole};
+ghost use Rattle.problem_core.specs.Corners.{NoNegativeValue};
 ghost use Rattle.cert_core.specs.Stops.{IsStopOf};
 ghost use Rattle.corner.specs.Changes.{FromAdded};
 ghost use Rattle.corner_ends.specs.Runs.{HasEnded};
@@ -11,6 +12,7 @@ use crate::changing::join;
 use cert_core::RunStop;
 use corner::Corner;
 use frac_core::OutOfMemory;
+use primal_run::settle;
 use problem_core::{Row, Stay};
 use std::alloc::Global;
 
@@ -78,6 +80,91 @@ pub fn started(alloc: Global, stays: &[Stay], rows: &[Row], budget: u64) -> Resu
         Err(stop) => {
             drop(corner); // for the proof: moved on
             Err(stop)
+        }
+    }
+}
+
+// Adds the next row, and goes on to the best corner.
+fn join_next(alloc: Global, c: &mut Corner, rows: &[Row], i: usize, budget: u64) -> Option<()>
+    requires marked { 0 < length c.old.before }
+    requires within { i < length rows.now }
+    requires held { c.old.problem.rows ≡ take i rows.now }
+    requires whole { IsWhole (as_problem rows.now c.old.problem.stays) }
+    requires values { NoNegativeValue c.old.problem c.old.marks }
+    ensures problem { IfSome result
+        (λ _. c.new.problem ≡ as_problem (take (i + 1) rows.now) c.old.problem.stays) }
+    ensures values { IfSome result (λ _. NoNegativeValue c.new.problem c.new.marks) }
+    ensures before { c.new.before ≡ c.old.before }
+{
+    let Ok(()) = join(alloc, c, &rows[i..i + 1], budget) else {
+        return None;
+    };
+    Some(())
+}
+
+// Adds rows one after another, and goes on to the best corner after each.
+fn join_each(alloc: Global, c: &mut Corner, rows: &[Row], budget: u64) -> Option<()>
+    requires marked { 0 < length c.old.before }
+    requires none { c.old.problem.rows ≡ [] }
+    requires whole { IsWhole (as_problem rows.now c.old.problem.stays) }
+    requires values { NoNegativeValue c.old.problem c.old.marks }
+    ensures problem { IfSome result (λ _. c.new.problem ≡ as_problem rows.now c.old.problem.stays) }
+    ensures values { IfSome result (λ _. NoNegativeValue c.new.problem c.new.marks) }
+    ensures before { c.new.before ≡ c.old.before }
+{
+    for i in 0..rows.len() {
+        join_next(alloc, c, rows, i, budget)?;
+    }
+    Some(())
+}
+
+// Gives the corner of nothing these stays, and then one row after another; goes on to the best corner, and
+// marks it.
+fn fill_by_rows(
+    alloc: Global,
+    c: &mut Corner,
+    stays: &[Stay],
+    rows: &[Row],
+    budget: u64,
+) -> Option<()>
+    requires marked { 0 < length c.old.before }
+    requires new { c.old.problem ≡ as_problem [] [] }
+    requires none { c.old.marks ≡ [] }
+    requires whole { IsWhole (as_problem rows.now stays.now) }
+    ensures problem { IfSome result (λ _. c.new.problem ≡ as_problem rows.now stays.now) }
+    ensures end { IfSome result (λ _. HasEnded c.new) }
+    ensures marked { IfSome result (λ _. IsMarkedHere c.new) }
+{
+    let Ok(()) = add_stays(c, stays) else {
+        return None;
+    };
+    c.show_corner(); // for the proof: what a corner keeps
+    join_each(alloc, c, rows, budget)?;
+    let Ok(()) = settle(alloc, c, budget) else {
+        return None;
+    };
+    c.mark();
+    Some(())
+}
+
+/// The best corner of the problem of these stays and rows, marked, to which the rows lead one after another:
+/// where each joins what is best of those before it, the rows of the corner stay short. `None` where
+/// something stops that; [`started`] tells what.
+pub fn started_by_rows(alloc: Global, stays: &[Stay], rows: &[Row], budget: u64) -> Option<Corner>
+    requires whole { IsWhole (as_problem rows.now stays.now) }
+    ensures problem { IfSome result (λ c. c.problem ≡ as_problem rows.now stays.now) }
+    ensures end { IfSome result HasEnded }
+    ensures marked { IfSome result IsMarkedHere }
+{
+    let Ok(mut corner) = Corner::new(alloc) else {
+        return None;
+    };
+    corner.mark();
+    match fill_by_rows(alloc, &mut corner, stays, rows, budget) {
+        Some(()) => Some(corner),
+        None => {
+            drop(corner); // for the proof: moved on
+            None
         }
     }
 }

@@ -6,12 +6,12 @@ use Rattle.frac_core.specs.declared.frac.TheConstants.{PART_BOUND}
 use Rattle.frac_core.specs.Fraction.{Fraction, IsKept, IsLowest}
 use Rattle.frac_core.proofs.Integers.{cancel_mul, diff-add, diff-mul, diff-neg, diff-pos, diff_eq, minus-one, neg-pos, on_1}
 use Rattle.problem_core.proofs.Best.Midpoints.{best-AreSame}
+use Rattle.problem_core.proofs.StayNumbers.{two_numbers}
 use Rattle.corner_laws.proofs.MarkWritings.Fits.{whole_is_kept}
 use Rattle.sweep_laws.specs.Fractions.{IsNoMore, difference}
 use Rattle.sweep_laws.specs.Stretches.{AreAllValues, AreMovedTo, IsBestAt, IsLong, IsRightPiece, IsSweep, IsUpwards, Rates, Stretch, moved_values}
 use Rattle.sweep_laws.specs.Instances.{SomeSweeps, StraightIsWrong, bent, both, piece, points, still}
 use Rattle.sweep_laws.proofs.Bends.{as_wide_there, at_most_there, bent_at, high-best, is-problem, low-best}
-use Rattle.sweep_laws.proofs.Numbers.{two_numbers}
 use Rattle.sweep_laws.proofs.Forms.{not-short, pieces-form}
 
 ruleset ring = (minus-one, diff-add, diff-mul, diff-neg, diff-pos, neg-pos)

@@ -13,6 +13,7 @@ use Rattle.problem_core.specs.declared.parts.Rel.TheVariants.{Eq, Le}
 use Rattle.problem_core.specs.Layout.{Assignment, HasStay, IsBest, IsCovered, IsProper, Problem, Row, above, error, line_of_row, lines}
 use Rattle.problem_core.specs.Certificates.{HasSign, required}
 use Rattle.problem_core.proofs.Best.Agreed.{agreed-IsBest}
+use Rattle.problem_core.proofs.StayNumbers.{two_numbers}
 use Rattle.cert_core.specs.declared.by.By.{By}
 use Rattle.cert_core.specs.Claims.{times_of}
 use Rattle.cert_core.specs.Stops.{ComesBefore, IsShownConflict}
@@ -23,7 +24,6 @@ use Rattle.sweep_laws.specs.Stretches.{AreAllValues, Clash, IsBestAt, IsRightCon
 use Rattle.sweep_laws.specs.Instances.{SomeBounded, both, bounded, bounded_by, by_row, piece, points, row_of, still, term}
 use Rattle.sweep_laws.proofs.BendSweeps.{gives-line, long, no-more-points, reach-line, rising_rates, upwards}
 use Rattle.sweep_laws.proofs.Forms.{behind-form}
-use Rattle.sweep_laws.proofs.Numbers.{two_numbers}
 use Rattle.sweep_laws.proofs.Narrow.{inset, inset-gap, inset-line, no-error, no-gap, own-share, true-is-not, view-same, whole-share, width-gap, width-same}
 
 abbrev Value : Type 0

@@ -8,7 +8,6 @@ pub mod Costs
 pub mod Farther
 pub mod Deciding
 pub mod Ends
-pub mod Numbers
 pub mod PieceNumbers
 pub mod Pieces
 pub mod Bends

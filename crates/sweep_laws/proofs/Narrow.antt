@@ -16,6 +16,7 @@ use Rattle.problem_core.specs.Layout.{Assignment, HasStay, IsBest, IsCovered, Is
 use Rattle.problem_core.specs.Certificates.{HasSign, required}
 use Rattle.problem_core.proofs.Best.Agreed.{agreed-IsBest}
 use Rattle.problem_core.proofs.Best.WindowRows.{not_below}
+use Rattle.problem_core.proofs.StayNumbers.{two_numbers}
 use Rattle.cert_core.specs.declared.by.By.{By}
 use Rattle.cert_core.specs.Claims.{times_of}
 use Rattle.cert_core.specs.Stops.{ComesBefore, IsShownConflict}
@@ -25,7 +26,6 @@ use Rattle.sweep_laws.specs.Fractions.{IsLess, IsNoMore, difference}
 use Rattle.sweep_laws.specs.Stretches.{AreAllValues, AreMovedTo, Clash, IsBestAt, IsRightConflict, IsRightPiece, IsSweep, Rates, Stretch, moved_values}
 use Rattle.sweep_laws.specs.Instances.{SomeConflicts, both, by_row, narrow, narrow_by, piece, points, row_of, still, term}
 use Rattle.sweep_laws.proofs.BendSweeps.{gives-line, long, no-more-points, no-more-than, reach-line, rising_rates, upwards}
-use Rattle.sweep_laws.proofs.Numbers.{two_numbers}
 use Rattle.sweep_laws.proofs.Forms.{alone-form, clash-form, not-pointed, not-split, not-twice}
 
 ruleset ring = (minus-one, diff-add, diff-mul, diff-neg, diff-pos, neg-pos)

@@ -15,22 +15,23 @@ use Rattle.problem_core.specs.declared.parts.Stay.{Stay}
 use Rattle.problem_core.specs.Kept.{IsWhole}
 use Rattle.problem_core.specs.Layout.{Gives, IsBest, Problem}
 use Rattle.problem_core.specs.Corners.{Agree, IsCorner, IsIn, NoNegativeColumn, NoNegativeValue, Point, StandsAt, assignment_at, attr_column, one_column, place}
+use Rattle.problem_core.specs.Numbers.{AreNumbersOf}
 use Rattle.problem_core.specs.Levels.{CostsAbove}
 use Rattle.problem_core.proofs.Corners.Ends.{abs_same}
 use Rattle.problem_core.proofs.Forms.{each-both, each-impl}
+use Rattle.problem_core.proofs.StayNumbers.{of_each, same_numbers}
 use Rattle.corner_laws.proofs.MarkWritings.LowestForms.{marks_are_fixed}
 use Rattle.corner_laws.proofs.PathEnds.BeginsUnique.{agree-both}
 use Rattle.corner_laws.proofs.ZeroColumns.{all-marks}
 use Rattle.corner_lines.specs.Shifts.{with_constant}
 use Rattle.sweep_laws.specs.Fractions.{IsNoMore, difference}
-use Rattle.sweep_laws.specs.Stretches.{AreAllValues, AreMovedTo, AreNumbersOf, IsBestAt, IsRightPiece, Rates, moved_value, moved_values}
+use Rattle.sweep_laws.specs.Stretches.{AreAllValues, AreMovedTo, IsBestAt, IsRightPiece, Rates, moved_value, moved_values}
 use Rattle.sweep_laws.specs.Laws.{CornerIsPiece, IsMix, Mixes}
 use Rattle.sweep_laws.proofs.Costs.{IsEachCorner, none-between}
 use Rattle.sweep_laws.proofs.EachCorner.{corner_at_each}
 use Rattle.sweep_laws.proofs.Ends.{end-best, weighed-with}
 use Rattle.sweep_laws.proofs.Farther.{inside-mark}
 use Rattle.sweep_laws.proofs.Mixtures.{Places, less-by, mix, mix-is, mix_stands, places, up-mixed}
-use Rattle.sweep_laws.proofs.Numbers.{of_each, same_numbers}
 use Rattle.sweep_laws.proofs.PieceNumbers.{moved-there, rate_den, rate_num, reach-whole, step-is, still-moved, still-reach, whole-way}
 use Rattle.sweep_laws.proofs.Ring.{as-count, mixes-between}
 use Rattle.sweep_laws.proofs.SeenAlike.{columns_at_each}

@@ -1,18 +1,13 @@
 -- What is best for every constant of a row between two.
-use Rattle.std.specs.Prelude.{◌≡◌, ◌<◌, ◌≤◌, ◌⊎◌, ◌↔◌, ℕ, Bool, true, false, List, [], ◌∷◌, ◌++◌, length, map}
-use Rattle.std.specs.Prelude.{pos, All, AllPairs, Contains}
+use Rattle.std.specs.Prelude.{◌≡◌, ◌<◌, ◌≤◌, ◌⊎◌, ℕ, Bool, true, false, List, [], ◌∷◌, ◌++◌, length, map}
+use Rattle.std.specs.Prelude.{pos, All}
 use Rattle.frac_core.specs.Fraction.{Fraction, IsKept, IsLowest, IsRatio, sum_den, sum_num}
-use Rattle.problem_core.specs.declared.parts.Stay.{Stay}
-use Rattle.problem_core.specs.Layout.{Assignment, Gives, HasStay, IsBest, Problem}
+use Rattle.problem_core.specs.Layout.{Assignment, Gives, IsBest, Problem}
+use Rattle.problem_core.specs.Numbers.{AreNumbersOf}
 use Rattle.cert_core.specs.declared.by.By.{By}
 use Rattle.cert_core.specs.Stops.{IsShownConflict}
 use Rattle.corner_lines.specs.Shifts.{with_constant}
 use Rattle.sweep_laws.specs.Fractions.{IsLess, IsNoMore, along, difference}
-
--- the attributes of these stays, by number
-pub record AreNumbersOf (stays : List Stay) (attrs : List ℕ) : Type 0 where
-  pub rising : AllPairs (λ a b. a < b) attrs
-  pub same : (attr : ℕ) → Contains attrs attr ↔ HasStay stays attr
 
 -- a value for each attribute of the problem, by number, in lowest terms that fit
 pub record AreAllValues (p : Problem) (values : List (ℕ × Fraction)) : Type 0 where

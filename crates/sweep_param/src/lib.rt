@@ -7,9 +7,13 @@
 //! }
 //! ```
 //!
-//! The start is a run over all rows anew, with the present constant. From its corner one slide goes up and
-//! one goes down (`sweep_run`), each with the whole budget; where the present constant is outside the two,
-//! one slide alone passes the constants that aren't asked for, and forms no values there.
+//! The start finds the best corner with the present constant anew. From there one slide goes up and one goes
+//! down (`sweep_run`), each with the whole budget; where the present constant is outside the two, one slide
+//! alone passes the constants that aren't asked for, and forms no values there.
+//!
+//! At first the rows join one after another, each what is best of those before it, which keeps the corner's
+//! rows short. Where something stops that start, or a slide from its corner, all rows join at once, a run
+//! follows, and the slides begin at its corner: so a stop's path begins where a run from nothing leads.
 //!
 //! What [`sweep`] answers is a sweep (`IsSweep` of `sweep_laws`), a stop has a lawful path of the start or of
 //! a slide (`IsSweepStop`). The pieces of both slides meet at the present constant; they aren't joined where

@@ -16,7 +16,7 @@ ghost use Rattle.sweep_run.specs.declared.ways.Way as ways;
 use crate::joining::{Slides, joined, lone_piece};
 use corner::Corner;
 use frac_core::{Frac, OutOfMemory};
-use layout_solver::started;
+use layout_solver::{started, started_by_rows};
 use problem_core::{Problem, Row};
 use std::alloc::Global;
 use std::cmp::Ordering;
@@ -184,9 +184,26 @@ fn start(alloc: Global, p: &Problem, range: &Range) -> Result<Corner, SweepStop>
     }
 }
 
+// The stretches from a corner to which the rows lead one after another, unless something stops that.
+fn swept_by_rows(alloc: Global, p: &Problem, range: &Range) -> Option<Vec<Stretch>>
+    requires range { IsRangeOf p.now range.now }
+    ensures { IfSome result (λ s. IsSweep p.now range.now.row range.now.from range.now.to
+        (stretches_of s.items)) }
+{
+    p.show_whole(); // for the proof: what a problem keeps
+    let mut corner = started_by_rows(alloc, p.stays(), p.rows(), range.budget)?;
+    let all = swept(alloc, &mut corner, range);
+    drop(corner); // for the proof: moved on, not taken apart here
+    match all {
+        Ok(all) => Some(all),
+        Err(_) => None,
+    }
+}
+
 /// What is best for all constants of the row from the one to the other, in rising order.
 ///
-/// The start is a run of all rows anew, and from its corner two slides go to both ends, each with the whole
+/// The start finds the best corner anew, by one row after another, and from there two slides go to both ends.
+/// Where something stops that, all rows join at once, a run follows, and then the slides, each with the whole
 /// budget. `Unfit` names what doesn't fit at the end of a lawful path, with the constant at which that is,
 /// `Spent` a path of as many exchanges as the budget.
 pub fn sweep(
@@ -212,6 +229,9 @@ pub fn sweep(
         to,
         budget,
     };
+    if let Some(all) = swept_by_rows(alloc, p, &range) {
+        return Ok(all);
+    }
     let mut corner = start(alloc, p, &range)?;
     let all = swept(alloc, &mut corner, &range);
     drop(corner); // for the proof: moved on, not taken apart here

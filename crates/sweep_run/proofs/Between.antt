@@ -1,6 +1,6 @@
 -- A corner that is a best end at two places is one between, and its values there are the ends of a right piece.
-use Rattle.std.proofs.Common.{◌≡◌, ◌∙◌, ℕ, ◌<◌, Bool, true, false, List, map, get_or, ℤ, pos, ◌*ℤ◌, nat_abs, sym, ap, subst, All}
-use Rattle.std.proofs.lemmas.List.Elements.{All-from_recursion, Contains-get_or, recursion_from_All}
+use Rattle.std.proofs.Common.{◌≡◌, ◌∙◌, ℕ, ◌<◌, Bool, true, false, List, map, ℤ, pos, ◌*ℤ◌, nat_abs, sym, ap, subst}
+use Rattle.std.proofs.lemmas.List.Elements.{All-from_recursion, recursion_from_All}
 use lib.IntN.{*ℤ_comm}
 use Rattle.frac_core.specs.Fraction.{Fraction, IsKept}
 use Rattle.frac_core.proofs.Lists.{each-from_map}
@@ -11,10 +11,11 @@ use Rattle.problem_core.specs.Layout.{Gives, HasStay, Problem}
 use Rattle.problem_core.specs.Corners.{Agree, IsCorner, assignment_at, attr_column, one_column}
 use Rattle.problem_core.proofs.Corners.Ends.{abs_same}
 use Rattle.problem_core.proofs.Forms.{each-both, each-impl}
+use Rattle.problem_core.proofs.StayNumbers.{all_held}
 use Rattle.corner.specs.Views.{HasValueAt}
 use Rattle.corner_ends.specs.Runs.{IsBestEnd}
 use Rattle.corner_lines.specs.Shifts.{with_constant}
-use Rattle.sweep_laws.specs.Stretches.{AreAllValues, AreNumbersOf, IsRightPiece}
+use Rattle.sweep_laws.specs.Stretches.{AreAllValues, IsRightPiece}
 use Rattle.sweep_laws.proofs.Costs.{IsEachCorner, none-between}
 use Rattle.sweep_laws.proofs.Mixtures.{values_between}
 use Rattle.sweep_laws.proofs.Pieces.{corner_is_piece}
@@ -50,9 +51,6 @@ reached_between p way at corner a b place first last is low high = record {
 
 -- ---- the values of the corner's point
 
-pub numbers_held : (stays : List Stay) (attrs : List ℕ) → AreNumbersOf stays attrs → All (HasStay stays) attrs
-numbers_held stays attrs are i d within = (are.same (get_or attrs i d)).0 (Contains-get_or attrs i d within)
-
 value-here : (q : Problem) (at : List Mark) (corner : IsCorner q at) (attr : ℕ) (f : Fraction) → HasStay q.stays attr → HasValueAt q at (attr_column attr) f → corner.point.num (attr_column attr) *ℤ pos f.den ≡ f.num *ℤ pos (nat_abs (corner.point.num one_column))
 value-here q at corner attr f (i, s, within, is, e) (z, stands, value) =
     let agree : Agree (attr_column attr) corner.point z = subst (λ (n : ℕ). Agree (attr_column n) corner.point z) (ap (λ (t : Stay). t.attr) is ∙ e) (corner.attrs_fixed z stands i s within) in
@@ -67,7 +65,7 @@ gives_at q at corner values are =
     (λ v h. value-here q at corner v.0 v.1 h.0 h.1)
     (each-both (λ (v : ℕ × Fraction). HasStay q.stays v.0) (λ (v : ℕ × Fraction). HasValueAt q at (attr_column v.0) v.1) values
     (each-from_map (HasStay q.stays) (λ (v : ℕ × Fraction). v.0) values
-    (recursion_from_All (HasStay q.stays) (map (λ (v : ℕ × Fraction). v.0) values) (numbers_held q.stays (map (λ (v : ℕ × Fraction). v.0) values) are.all.attributes)))
+    (recursion_from_All (HasStay q.stays) (map (λ (v : ℕ × Fraction). v.0) values) (all_held q.stays (map (λ (v : ℕ × Fraction). v.0) values) are.all.attributes)))
     (recursion_from_All (λ (v : ℕ × Fraction). HasValueAt q at (attr_column v.0) v.1) values are.there)))
 
 -- ---- the piece

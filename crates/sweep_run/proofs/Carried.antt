@@ -11,13 +11,14 @@ use Rattle.problem_core.specs.Layout.{IsBest, Problem}
 use Rattle.problem_core.specs.Corners.{StandsAt, place}
 use Rattle.problem_core.specs.Changes.Paths.{IsPath, last_marks}
 use Rattle.problem_core.specs.Unfit.{IsUnfitWhat}
+use Rattle.problem_core.specs.Numbers.{AreNumbersOf}
 use Rattle.cert_core.specs.declared.by.By.{By}
 use Rattle.cert_core.specs.Paths.{Path}
 use Rattle.cert_core.specs.Stops.{IsShownConflict, IsSpentPath}
 use Rattle.corner_lines.specs.Shifts.{with_constant}
 use Rattle.corner_ends.specs.Runs.{IsBestEnd}
 use Rattle.sweep_laws.specs.Stops.{IsOtherAt, IsSlideFar, IsSlidePath, IsSlideSpent, IsSlideUnfit, IsToldAt, IsUnfitTurn, IsZeroAt, Turns}
-use Rattle.sweep_laws.specs.Stretches.{AreAllValues, AreNumbersOf, AreRight, Clash, IsBestAt, IsRightConflict, IsRightPiece, Piece, Rates, Stretch, no_piece_first}
+use Rattle.sweep_laws.specs.Stretches.{AreAllValues, AreRight, Clash, IsBestAt, IsRightConflict, IsRightPiece, Piece, Rates, Stretch, no_piece_first}
 use Rattle.sweep_laws.proofs.OneConstant.{last_constant_stands}
 use Rattle.sweep_run.specs.declared.slides.Slid.{Slid}
 use Rattle.sweep_run.specs.declared.stretches.SweepQuantity.TheVariants.{At, Breakpoint}

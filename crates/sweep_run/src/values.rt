@@ -1,11 +1,10 @@
 // The values of attributes at a place of a slide.
-ghost use Rattle.std.specs.Prelude.{◌≡◌, All, IfOk, IfErr, map};
+ghost use Rattle.std.specs.Prelude.{All, IfOk, IfErr};
 ghost use Rattle.frac_core.specs.Fraction.{IsKept};
 ghost use Rattle.problem_core.specs.Layout.{HasStay};
 ghost use Rattle.problem_core.specs.Corners.{attr_column};
 ghost use Rattle.corner.specs.Views.{HasValueAt};
 ghost use Rattle.corner_lines.specs.Shifts.{with_constant};
-ghost use Rattle.sweep_laws.specs.Stretches.{AreNumbersOf};
 ghost use Rattle.sweep_run.specs.Values.{AreListed, AreValuesAt};
 ghost use Rattle.sweep_run.specs.Ways.{IsAtEnd, IsPlace, IsUnfitStopThere};
 
@@ -13,7 +12,7 @@ use crate::rates::{rate_of, value_back};
 use crate::ways::{Place, Way};
 use corner::Corner;
 use frac_core::{Frac, OutOfMemory, Stop};
-use problem_core::{Values, What};
+use problem_core::{Values, What, numbers_of};
 use std::alloc::Global;
 
 // The value of an attribute at the place.
@@ -34,27 +33,6 @@ fn value_at(c: &Corner, way: &Way, attr: u32, place: &Place) -> Result<Frac, Sto
         Ok(value) => Ok(value),
         Err(_) => Err(Stop::Refused(attr)),
     }
-}
-
-// The attributes, in the order of their stays.
-fn attributes(alloc: Global, c: &Corner) -> Result<Vec<u32>, OutOfMemory>
-    ensures { IfOk result (λ attrs. attrs.items ≡ map (λ s. s.attr) c.now.problem.stays) }
-{
-    let mut out = Vec::new(alloc);
-    for stay in c.stays() {
-        out.push(stay.attr)?;
-    }
-    Ok(out)
-}
-
-// The attributes, by number.
-fn numbers(alloc: Global, c: &Corner) -> Result<Vec<u32>, OutOfMemory>
-    ensures { IfOk result (λ attrs. AreNumbersOf c.now.problem.stays attrs.items) }
-{
-    c.show_corner(); // for the proof: what a corner keeps
-    let mut out = attributes(alloc, c)?;
-    out.sort_unstable();
-    Ok(out)
 }
 
 // These attributes with their values at the place, or the one whose value doesn't fit.
@@ -92,7 +70,8 @@ pub(crate) fn values_at(
         c.now.marks) }
     ensures unfit { IfErr result (IsUnfitStopThere c.now way.now place.now) }
 {
-    let attrs = numbers(alloc, c)?;
+    c.show_corner(); // for the proof: what a corner keeps
+    let attrs = numbers_of(alloc, c.stays())?;
     let pairs = pairs_at(alloc, c, way, place, &attrs)?;
     Ok(Values::of(alloc, &pairs)?)
 }
@@ -115,7 +94,8 @@ fn pairs_here(alloc: Global, c: &Corner, attrs: &[u32]) -> Result<Vec<(u32, Frac
 pub fn values_here(alloc: Global, c: &Corner) -> Result<Values, OutOfMemory>
     ensures { IfOk result (AreValuesAt c.now.problem c.now.marks) }
 {
-    let attrs = numbers(alloc, c)?;
+    c.show_corner(); // for the proof: what a corner keeps
+    let attrs = numbers_of(alloc, c.stays())?;
     let pairs = pairs_here(alloc, c, &attrs)?;
     Values::of(alloc, &pairs)
 }

@@ -1,6 +1,7 @@
 use Rattle.std.proofs.lemmas.Result.{IfOk-weaker}
+use Rattle.problem_core.proofs.StayNumbers.{all_held}
 use Rattle.diagnosis.specs.Probes.{AreMoving, AreMovingAmong}
-use Rattle.diagnosis.proofs.MovingAttributes.{moving_of, numbers_all}
+use Rattle.diagnosis.proofs.MovingAttributes.{moving_of}
 use Rattle.diagnosis.proofs.moving.all_ambiguous.Goals as goal
 
 pub numbers_of-requires : goal.numbers_of-requires
@@ -9,7 +10,7 @@ numbers_of-requires c = rw c.stays.ensures c.show_layout.ensures.whole.apart
 pub moving_among-requires-clause-held : goal.moving_among-requires-clause-held
 moving_among-requires-clause-held c =
     rw c.deref.ensures.value
-    (numbers_all c.args.e.now.problem.stays c.in_ok-attrs.attrs.items (rw c.stays.ensures at c.in_ok-attrs.ensures))
+    (all_held c.args.e.now.problem.stays c.in_ok-attrs.attrs.items (rw c.stays.ensures at c.in_ok-attrs.ensures))
 
 pub moving_among-requires-clause-rising : goal.moving_among-requires-clause-rising
 moving_among-requires-clause-rising c = rw c.deref.ensures.value c.in_ok-attrs.ensures.rising

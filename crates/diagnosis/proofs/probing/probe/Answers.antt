@@ -1,15 +1,11 @@
-use Rattle.std.proofs.Common.{◌∙◌, ◌∷◌, [], false, pos, refl, sym, subst, ap}
+use Rattle.std.proofs.Common.{pos, refl, subst, sym}
+use Rattle.std.proofs.lemmas.Result.{IfOk-weaker}
 use Rattle.frac_core.specs.Fraction.{Fraction, IsUnfitRatio}
-use Rattle.problem_core.specs.Layout.{Row}
-use Rattle.problem_core.specs.Kept.{IsRow, IsWhole}
-use Rattle.layout_solver.specs.Layouts.{IsBestValue, with_added}
-use Rattle.cert_core.specs.Stops.{IsStopOf}
-use Rattle.corner.specs.Changes.{FromAdded}
-use Rattle.diagnosis.specs.Probes.{IsBeside, IsStopped, next_num, next_number}
-use Rattle.diagnosis.proofs.Probes.ProbeStops.{stop_not_conflict, stopped}
-use Rattle.diagnosis.proofs.Probes.ProbeWhole.{made_row, probe_whole}
-use Rattle.diagnosis.proofs.probing.probe.Goals as goal
+use Rattle.problem_core.specs.Gaps.{value_of}
+use Rattle.layout_solver.specs.Layouts.{Layout}
+use Rattle.diagnosis.specs.Probes.{IsBeside, IsNearestValue, IsTried, next_num}
 use Rattle.layout_solver.proofs.ApartValues.{value_is}
+use Rattle.diagnosis.proofs.probing.probe.Goals as goal
 
 pub returns-in_default-clause-stop : goal.returns-in_default-clause-stop
 returns-in_default-clause-stop c = (
@@ -17,37 +13,26 @@ returns-in_default-clause-stop c = (
   subst (λ (v : Fraction). IsUnfitRatio (next_num c.args.up v) (pos v.den)) (value_is c.args.e.now.values c.args.attr c.value_at.result c.show_layout.ensures.apart c.value_at.ensures) c.in_default.ensures.none,
 )
 
-pub of-requires-clause-row : goal.of-requires-clause-row
-of-requires-clause-row c =
-    subst IsRow (sym (made_row c.args.e.now c.args.attr c.next_number.result c.in-Some.target (c.next_number.ensures ∙ ap next_number c.rows.ensures)))
-    (probe_whole c.args.e.now c.args.attr c.in-Some.target c.show_layout.ensures.whole c.show_layout.ensures.best.attributes c.show_layout.ensures.kept c.in-Some.ensures.kept c.requires.can).0
-
-pub value_with-requires-clause-whole : goal.value_with-requires-clause-whole
-value_with-requires-clause-whole c =
-    subst (λ (r : Row). IsWhole (with_added c.args.e.now [] (r ∷ []))) (sym (c.in_ok-row.ensures ∙ made_row c.args.e.now c.args.attr c.next_number.result c.in-Some.target (c.next_number.ensures ∙ ap next_number c.rows.ensures)))
-    (probe_whole c.args.e.now c.args.attr c.in-Some.target c.show_layout.ensures.whole c.show_layout.ensures.best.attributes c.show_layout.ensures.kept c.in-Some.ensures.kept c.requires.can).1
-
-pub returns-in-Ok-clause-value : goal.returns-in-Ok-clause-value
-returns-in-Ok-clause-value c = (
+pub returns-in-Some-pushed-clause-value : goal.returns-in-Some-pushed-clause-value
+returns-in-Some-pushed-clause-value c = (
   c.in-Some.target,
-  subst (λ (v : Fraction). IsBeside c.args.up v c.in-Some.target) (value_is c.args.e.now.values c.args.attr c.value_at.result c.show_layout.ensures.apart c.value_at.ensures) c.in-Some.ensures.some,
+  (subst (λ (v : Fraction). IsBeside c.args.up v c.in-Some.target) (value_is c.args.e.now.values c.args.attr c.value_at.result c.show_layout.ensures.apart c.value_at.ensures) c.in-Some.ensures.some),
   c.in-Some.ensures.kept,
-  (probe_whole c.args.e.now c.args.attr c.in-Some.target c.show_layout.ensures.whole c.show_layout.ensures.best.attributes c.show_layout.ensures.kept c.in-Some.ensures.kept c.requires.can).1,
-  subst (λ (r : Row). IsBestValue (with_added c.args.e.now [] (r ∷ [])) c.args.attr c.in-Ok.value) (c.in_ok-row.ensures ∙ made_row c.args.e.now c.args.attr c.next_number.result c.in-Some.target (c.next_number.ensures ∙ ap next_number c.rows.ensures)) c.in-Ok.ensures.value,
+  c.in-Some-pushed.ensures.value,
 )
 
-pub stop_of-requires : goal.stop_of-requires
-stop_of-requires c =
-    stop_not_conflict c.args.e.now c.args.attr c.in-Some.target c.args.budget c.in-Err.stop c.show_layout.ensures.best
-    (probe_whole c.args.e.now c.args.attr c.in-Some.target c.show_layout.ensures.whole c.show_layout.ensures.best.attributes c.show_layout.ensures.kept c.in-Some.ensures.kept c.requires.can).1
-    (subst (λ (r : Row). IsStopOf false (with_added c.args.e.now [] (r ∷ [])) c.args.e.now.problem.rows (FromAdded (with_added c.args.e.now [] (r ∷ [])) c.args.e.now.corner (r ∷ [])) c.args.budget c.in-Err.stop)
-    (c.in_ok-row.ensures ∙ made_row c.args.e.now c.args.attr c.next_number.result c.in-Some.target (c.next_number.ensures ∙ ap next_number c.rows.ensures)) c.in-Err.ensures.stop)
-
-pub returns-clause-stop : goal.returns-clause-stop
-returns-clause-stop c =
-    subst (IsStopped c.args.e.now c.args.attr c.args.up c.args.budget) (sym c.stop_of.ensures)
-    (stopped c.args.e.now c.args.attr c.args.up c.in-Some.target c.args.budget c.in-Err.stop
+pub drawn-requires-clause-beside : goal.drawn-requires-clause-beside
+drawn-requires-clause-beside c =
+    subst (λ (l : Layout). IsBeside c.args.up (value_of l.values c.args.attr) c.in-Some.target) (sym c.pushed.ensures.same)
     (subst (λ (v : Fraction). IsBeside c.args.up v c.in-Some.target) (value_is c.args.e.now.values c.args.attr c.value_at.result c.show_layout.ensures.apart c.value_at.ensures) c.in-Some.ensures.some)
-    c.in-Some.ensures.kept
-    (subst (λ (r : Row). IsStopOf false (with_added c.args.e.now [] (r ∷ [])) c.args.e.now.problem.rows (FromAdded (with_added c.args.e.now [] (r ∷ [])) c.args.e.now.corner (r ∷ [])) c.args.budget c.in-Err.stop)
-    (c.in_ok-row.ensures ∙ made_row c.args.e.now c.args.attr c.next_number.result c.in-Some.target (c.next_number.ensures ∙ ap next_number c.rows.ensures)) c.in-Err.ensures.stop))
+
+pub returns-clause-value : goal.returns-clause-value
+returns-clause-value c =
+    IfOk-weaker c.drawn.result (IsNearestValue c.pushed.new.e.problem c.args.attr c.in-Some.target) (IsTried c.args.e.now c.args.attr c.args.up)
+    (λ f h. (
+      c.in-Some.target,
+      (subst (λ (v : Fraction). IsBeside c.args.up v c.in-Some.target) (value_is c.args.e.now.values c.args.attr c.value_at.result c.show_layout.ensures.apart c.value_at.ensures) c.in-Some.ensures.some),
+      c.in-Some.ensures.kept,
+      subst (λ (l : Layout). IsNearestValue l.problem c.args.attr c.in-Some.target f) c.pushed.ensures.same h,
+    ))
+    c.drawn.ensures.value

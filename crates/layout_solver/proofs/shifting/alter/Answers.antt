@@ -21,7 +21,7 @@ shift_all-requires-clause-near c = near_rows c.args.to.now c.args.c.now.problem 
 
 pub shift_all-requires-clause-low : goal.shift_all-requires-clause-low
 shift_all-requires-clause-low c =
-    rw c.new-low.ensures.items
+    rw c.in_ok-low.ensures
     (stood_low c.args.c.now c.stand.new.self c.args.to.now c.show_corner.ensures.kept.corner c.in_ok-stand.ensures.stood c.show_corner-2.ensures.kept.whole c.in_ok-stand.ensures.marks c.show_corner.ensures.kept c.show_corner-2.ensures.kept c.requires.values)
 
 pub restore-requires-clause-columns : goal.restore-requires-clause-columns

@@ -1,5 +1,0 @@
-use Rattle.std.proofs.Common.{◌≡◌, map, take}
-use Rattle.diagnosis.proofs.moving.numbers_of.Given as goal
-
-abbrev pub invariant-loop-stay : goal.invariant-loop-stay
-invariant-loop-stay l = l.attrs.items ≡ map (λ s. s.attr) (take l.stay-index l.stays)

@@ -1,0 +1,62 @@
+use Rattle.std.proofs.Common.{rules, [], ◌++◌, subst, sym}
+use Rattle.std.proofs.lemmas.Option.{IfSome_then}
+use Rattle.problem_core.specs.Layout.{Problem}
+use Rattle.corner_lines.specs.Shifts.{with_constant}
+use Rattle.corner.specs.Shifts.Shifting.{IsNear}
+use Rattle.layout_solver.specs.Layouts.{IsBestValue, with_added}
+use Rattle.layout_solver.specs.Starts.{IsMoved}
+use Rattle.layout_solver.proofs.Changes.{marked_is, marked_moved, marked_stay, marked_values, marked_whole, refused_before, refused_same, refused_solved, refused_values}
+use Rattle.layout_solver.proofs.engine.Engine.value_after.Goals as goal
+
+pub pushed-result-requires-clause-values : goal.pushed-result-requires-clause-values
+pushed-result-requires-clause-values c =
+    marked_values c.self.inside.corner c.mark.new.self c.self.inside.values.0 c.self.inside.earlier c.args.self.now
+    (record { solved = c.self.invariant; view = c.self.view_is; scene = c.mark.ensures.scene; before = c.mark.ensures.before; room = c.requires.room })
+
+pub pushed-result-requires-clause-whole : goal.pushed-result-requires-clause-whole
+pushed-result-requires-clause-whole c =
+    marked_whole c.self.inside.corner c.mark.new.self c.self.inside.values.0 c.self.inside.earlier c.args.self.now
+    (record { solved = c.self.invariant; view = c.self.view_is; scene = c.mark.ensures.scene; before = c.mark.ensures.before; room = c.requires.room }) [] c.args.rows.now c.requires.whole
+
+pub pushed-result-requires-clause-attr : goal.pushed-result-requires-clause-attr
+pushed-result-requires-clause-attr c =
+    marked_stay c.self.inside.corner c.mark.new.self c.self.inside.values.0 c.self.inside.earlier c.args.self.now
+    (record { solved = c.self.invariant; view = c.self.view_is; scene = c.mark.ensures.scene; before = c.mark.ensures.before; room = c.requires.room }) c.args.attr c.requires.attr
+
+pub invariant_of-self-inside : goal.invariant_of-self-inside
+invariant_of-self-inside c = (
+  refused_values c.self.inside.corner c.mark.new.self c.self.inside.values.0 c.self.inside.earlier c.args.self.now
+      (record { solved = c.self.invariant; view = c.self.view_is; scene = c.mark.ensures.scene; before = c.mark.ensures.before; room = c.requires.room }) c.pushed-result.new.c c.back.new.self c.pushed-result.ensures.before c.back.ensures.scene,
+  (
+    refused_before c.self.inside.corner c.mark.new.self c.self.inside.values.0 c.self.inside.earlier c.args.self.now
+        (record { solved = c.self.invariant; view = c.self.view_is; scene = c.mark.ensures.scene; before = c.mark.ensures.before; room = c.requires.room }) c.pushed-result.new.c c.back.new.self c.pushed-result.ensures.before c.back.ensures.scene,
+    tt,
+  ),
+)
+
+pub invariant_of-self : goal.invariant_of-self
+invariant_of-self c =
+    refused_solved c.self.inside.corner c.mark.new.self c.self.inside.values.0 c.self.inside.earlier c.args.self.now
+    (record { solved = c.self.invariant; view = c.self.view_is; scene = c.mark.ensures.scene; before = c.mark.ensures.before; room = c.requires.room }) c.pushed-result.new.c c.back.new.self c.pushed-result.ensures.before c.back.ensures.scene
+    _ _ (search rules) c.back.ensures.candidates
+
+pub pushed-result-requires-clause-near : goal.pushed-result-requires-clause-near
+pushed-result-requires-clause-near c = λ p moved.
+    subst (λ (q : Problem). IsNear q c.args.to.row c.args.to.constant)
+    (sym (marked_is c.self.inside.corner c.mark.new.self c.self.inside.values.0 c.self.inside.earlier c.args.self.now (record { solved = c.self.invariant; view = c.self.view_is; scene = c.mark.ensures.scene; before = c.mark.ensures.before; room = c.requires.room }) [] c.args.rows.now p moved))
+    c.requires.near
+
+pub returns-clause-value : goal.returns-clause-value
+returns-clause-value c =
+    IfSome_then c.pushed-result.result
+    {P = λ f. (p : Problem) → IsMoved c.mark.new.self [] (c.mark.new.self.problem.rows ++ c.args.rows.now) p → IsBestValue (with_constant c.args.to.row c.args.to.constant p) c.args.attr f}
+    {Q = IsBestValue (with_constant c.args.to.row c.args.to.constant (with_added c.args.self.now [] c.args.rows.now)) c.args.attr}
+    c.pushed-result.ensures.value
+    (λ f h. h (with_added c.args.self.now [] c.args.rows.now) (marked_moved c.self.inside.corner c.mark.new.self c.self.inside.values.0 c.self.inside.earlier c.args.self.now
+    (record { solved = c.self.invariant; view = c.self.view_is; scene = c.mark.ensures.scene; before = c.mark.ensures.before; room = c.requires.room }) [] c.args.rows.now))
+
+pub returns-clause-same : goal.returns-clause-same
+returns-clause-same c =
+    refused_same c.self.inside.corner c.mark.new.self c.self.inside.values.0 c.self.inside.earlier c.args.self.now
+    (record { solved = c.self.invariant; view = c.self.view_is; scene = c.mark.ensures.scene; before = c.mark.ensures.before; room = c.requires.room }) c.pushed-result.new.c c.back.new.self c.pushed-result.ensures.before c.back.ensures.scene
+    _ _ (search rules)
