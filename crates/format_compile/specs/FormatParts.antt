@@ -127,9 +127,9 @@ chain_parts c before (g ∷ gs) (i ∷ is) = spacing_parts (between c before i.n
     ++ (item_parts c i ++ chain_parts c i.name gs is)
 
 -- the parent's bar in front of the view of this name, and the connection to it, if there is one
-abbrev pub front_parts : Course → List ℕ → Option SpacingMeaning → List Part
-front_parts c name None = []
-front_parts c name (Some g) = Bar name ∷ spacing_parts (inside_near c name) USUAL_INSIDE g
+abbrev pub leading_parts : Course → List ℕ → Option SpacingMeaning → List Part
+leading_parts c name None = []
+leading_parts c name (Some g) = Bar name ∷ spacing_parts (inside_near c name) USUAL_INSIDE g
 
 -- the parent's bar behind the view of this name, and the connection to it, if there is one
 abbrev pub back_parts : Course → List ℕ → Option SpacingMeaning → List Part
@@ -169,7 +169,7 @@ last_name name (i ∷ is) = last_name i.name is
 abbrev pub parts_over : FormatMeaning → Option Align → Course → List ItemMeaning → List Part
 parts_over f align c [] = []
 parts_over f align c (i ∷ is) =
-    front_parts c i.name f.from_parent
+    leading_parts c i.name f.from_parent
     ++ (item_parts c i
     ++ (chain_parts c i.name f.spacings is
     ++ (back_parts c (last_name i.name is) f.to_parent

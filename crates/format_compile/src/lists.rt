@@ -131,7 +131,7 @@ fn push_front<'a>(
     spacing: &Option<Spacing<'a>>,
 ) -> Result<(), OutOfMemory>
     ensures { OnOk result (parts_view out.new.items
-        ≡ parts_view out.old.items ++ parts.front_parts course view.now (end_meaning spacing.now)) }
+        ≡ parts_view out.old.items ++ parts.leading_parts course view.now (end_meaning spacing.now)) }
 {
     if let Some(spacing) = spacing {
         out.push(Part::Bar { view })?;

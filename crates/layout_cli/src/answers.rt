@@ -15,7 +15,7 @@ use edge_io::{Failed, LINE_LIMIT, Sink, put_all};
 use frac_core::{OutOfMemory, Stop};
 use line_by_line::AnswerStop;
 use name_tables::LimitWord;
-use reply_texts::{OK_LENGTH, print_frames, reply_text};
+use reply_texts::{OK_LENGTH, print_frames, reply_text, show_frames};
 use script_text::read_line_in;
 use session_undo::{Refusal, Reply, Session};
 use span_text::SyntaxAt;
@@ -42,7 +42,7 @@ fn put_frames<K: Sink>(session: &Session, text: &mut Vec<u8>, sink: &mut K) -> R
     requires empty { text.old.items ≡ [] }
     ensures { Puts K.held K.faults sink.old sink.new (frames_text session.now.scene) result }
 {
-    match reply_text(session, &Ok(Reply::Frames), text) {
+    match show_frames(session, text) {
         Ok(()) => put_all(sink, text),
         Err(OutOfMemory) => print_frames(session, sink),
     }

@@ -44,5 +44,5 @@ pub use laws::{
 };
 pub use line_by_line::INPUT_LIMIT;
 pub use mode::constants_are_as_said;
-pub use program::{Status, run};
+pub use program::{Status, run, run_script};
 pub use responder::Responder;

@@ -119,8 +119,9 @@ fn script_status(answered: Result<bool, ScriptStop>) -> Status
     }
 }
 
-// Answers a script line by line.
-fn run_script<S: Source, K: Sink>(alloc: Global, source: &mut S, sink: &mut K) -> Status
+/// Answers a script line by line, each line before the next one is read: what `run` does where its word is
+/// `run`.
+pub fn run_script<S: Source, K: Sink>(alloc: Global, source: &mut S, sink: &mut K) -> Status
     ensures counted { IsRunCounted Run result (counts S.pulls S.faults K.faults (source.old, sink.old))
         (counts S.pulls S.faults K.faults (source.new, sink.new)) }
     ensures ends { LeadsOutside S.left S.faults K.held K.faults (source.old, sink.old) (source.new, sink.new)

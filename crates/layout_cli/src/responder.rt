@@ -9,7 +9,9 @@ ghost use Rattle.layout_cli.specs.Told.{IsReplied, IsRepliedInPart};
 ghost use Rattle.reply_texts.specs.Replies.{text_of};
 ghost use Rattle.reply_texts.specs.declared.reply.TheConstants.{OK_LENGTH};
 ghost use Rattle.scene_host.specs.Marks.{marked};
-ghost use Rattle.session_undo.specs.Replies.{accepted, IsChange, MayRefuse, Tells};
+ghost use Rattle.script_text.specs.View.{view};
+ghost use Rattle.session_undo.specs.Machine.{MeaningStep};
+ghost use Rattle.session_undo.specs.Replies.{accepted, Accepting, IsChange, MayRefuse, Refusing, Tells};
 ghost use Rattle.session_undo.specs.Kept.{AreWithin, limits_of};
 ghost use Rattle.session_undo.specs.State.{IsFirst, IsFirstWith};
 ghost use Rattle.script_text.specs.declared.words.Version.TheVariants as version;
@@ -22,7 +24,7 @@ use frac_core::OutOfMemory;
 use line_by_line::AnswerStop;
 use reply_texts::{OK_LENGTH, reply_text};
 use scene_host::push_marked;
-use script_text::{Version, is_version_line};
+use script_text::{Command, Reading, Version, is_version_line};
 use session_undo::{Limits, Refusal, Reply, Session};
 use std::alloc::Global;
 use std::marker::Model;
@@ -111,7 +113,7 @@ impl Responder {
     }
 
     /// The session that the lines led to.
-    pub(crate) fn session(&self) -> &Session
+    pub fn session(&self) -> &Session
         ensures { result.now ≡ self.now.state }
     {
         &self.session
@@ -155,6 +157,18 @@ impl Responder {
         let good = reply.is_ok();
         drop(reply); // for the proof: moved on, not taken apart here
         good
+    }
+
+    /// Does what a command says that no line says: as the line that says it would, but that no reply is
+    /// written. After a refusal all is as before; a line that says the version comes too late from then on.
+    pub fn apply(&mut self, command: Command<'_>) -> Result<Reply, Refusal>
+        ensures accepted { Accepting (MeaningStep self.old.state (view command.entry)) self.new.state result }
+        ensures refused { Refusing (MeaningStep self.old.state (view command.entry)) self.old.state result }
+        ensures begun { self.new.begun ≡ true }
+        ensures same { OnErr result (self.new.state ≡ self.old.state) }
+    {
+        self.begun = true;
+        self.session.apply(Reading::Command(command))
     }
 
     /// Answers a line: appends the lines of its reply, and says whether that is a refusal. After want of

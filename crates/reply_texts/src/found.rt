@@ -69,7 +69,7 @@ fn name_at(tree: &Tree, place: usize, attr: u32) -> Option<AttrName<'_>>
 }
 
 /// Appends the name of an attribute.
-pub(crate) fn push_attr(out: &mut Vec<u8>, tree: &Tree, attr: u32) -> Result<(), OutOfMemory>
+pub fn push_attr(out: &mut Vec<u8>, tree: &Tree, attr: u32) -> Result<(), OutOfMemory>
     ensures { IfOk result (λ _. out.new.items ≡ out.old.items ++ attr_name tree.now.views attr) }
 {
     for place in 0..tree.len() {

@@ -4,6 +4,7 @@ ghost use Rattle.std.specs.List.{flat_map};
 ghost use Rattle.view_tree.specs.Views.{LiveView};
 ghost use Rattle.reply_texts.specs.Frames.{value_text, placed_line, frame_text};
 
+use crate::printing::append_frame;
 use frac_core::{FRACTION_ROOM, Frac, OutOfMemory, Wide, write_frac};
 use scenes::Scene;
 
@@ -77,13 +78,14 @@ pub fn push_at(out: &mut Vec<u8>, scene: &Scene, place: usize) -> Result<(), Out
     ensures none { IfOk result (λ _. slice_get scene.now.scene.tree.views place ≡ None
         → out.new.items ≡ out.old.items) }
 {
+    let _ = scene.tree().len(); // for the proof: no view's name is longer than the limit
     let Some(view) = scene.tree().at(place) else {
         return Ok(());
     };
     let Some(frame) = scene.frame_at(place) else {
         return Ok(());
     };
-    push_frame(out, b"frame ", view.name, &named(&frame))
+    append_frame(out, view.name.as_bytes(), &named(&frame))
 }
 
 /// Appends the frames of all views.

@@ -6,9 +6,9 @@
 //! print_frames(&session, &mut sink)?;       // the same, straight to a sink, and without memory
 //! ```
 //!
-//! [`reply_text`] appends the lines of a reply, [`print_frames`] puts those of `frames` into a sink,
-//! [`push_at`] appends the line of one frame, and [`push_line`] a line of bytes and a word. Nothing here
-//! reads, and nothing changes a session.
+//! [`reply_text`] appends the lines of a reply, [`show_frames`] those of `frames`, and [`print_frames`] puts
+//! these into a sink; [`push_at`] appends the line of one frame, [`push_attr`] an attribute's name, and
+//! [`push_line`] a line of bytes and a word. Nothing here reads, and nothing changes a session.
 //!
 //! What always holds: a refusal for want of memory has no text; a change's reply has [`OK_LENGTH`] bytes, and
 //! where there is room for these its text is appended.
@@ -28,7 +28,8 @@ mod refusals;
 mod reply;
 mod swept;
 
+pub use found::push_attr;
 pub use frames::push_at;
 pub use numbers::push_line;
 pub use printing::print_frames;
-pub use reply::{OK_LENGTH, reply_text};
+pub use reply::{OK_LENGTH, reply_text, show_frames};

@@ -1,20 +1,23 @@
 // Frames that go straight to a sink.
-ghost use Rattle.std.specs.Prelude.{◌≡◌, ◌≤◌, ◌+◌, ◌++◌, [], length, take, IfSome, IfNone};
+ghost use Rattle.std.specs.Prelude.{◌≡◌, ◌≤◌, ◌+◌, ◌++◌, [], length, take, IfOk, IfSome, IfNone};
 ghost use Rattle.reply_texts.specs.Printing.{Puts, line_at};
 ghost use Rattle.reply_texts.specs.Frames.{frame_line, value_text};
 ghost use Rattle.reply_texts.specs.Replies.{frames_text};
-ghost use Rattle.frac_core.specs.declared.text.TheConstants.{FRACTION_ROOM};
-ghost use Rattle.reply_texts.specs.declared.printing.TheConstants.{LINE_ROOM};
+ghost use Rattle.reply_texts.specs.declared.printing.TheConstants.{LINE_ROOM, VALUE_ROOM};
 ghost use Rattle.name_tables.specs.declared.stops.TheConstants.{NAME_LIMIT};
 
 use crate::frames::{Frame, named};
 use edge_io::{Failed, Sink, put_all};
-use frac_core::{FRACTION_ROOM, Frac, Wide, write_frac};
+use frac_core::{Frac, OutOfMemory};
+use itoa::Buffer;
 use scenes::Scene;
 use session_undo::Session;
 
 // The room for the line of a frame: its words and spaces, a name, and four values.
-const LINE_ROOM: usize = 512;
+const LINE_ROOM: usize = 256;
+
+// The room for a value: a space, a sign, two numbers of twenty digits at most, and a slash.
+const VALUE_ROOM: usize = 43;
 
 // Writes some bytes behind the first `at` bytes of a line, and says where they end.
 fn write_bytes(line: &mut [u8; LINE_ROOM], at: usize, bytes: &[u8]) -> usize
@@ -30,14 +33,18 @@ fn write_bytes(line: &mut [u8; LINE_ROOM], at: usize, bytes: &[u8]) -> usize
 // Writes a space and a value.
 #[tactic(auto, unfolding(crate::specs::Frames::value_text))]
 fn write_value(line: &mut [u8; LINE_ROOM], at: usize, value: Frac) -> usize
-    requires { at + FRACTION_ROOM + 1 ≤ LINE_ROOM }
-    ensures within { result ≤ at + FRACTION_ROOM + 1 }
+    requires { at + VALUE_ROOM ≤ LINE_ROOM }
+    ensures within { result ≤ at + VALUE_ROOM }
     ensures text { take result line.new ≡ take at line.old ++ value_text value }
 {
-    let mut text = [0; FRACTION_ROOM];
-    let end = write_frac(Wide::from(value), &mut text);
+    let mut digits = Buffer::new();
     let at = write_bytes(line, at, b" ");
-    write_bytes(line, at, &text[..end])
+    let at = write_bytes(line, at, digits.format(value.num()).as_bytes());
+    if value.den() == 1 {
+        return at;
+    }
+    let at = write_bytes(line, at, b"/");
+    write_bytes(line, at, digits.format(value.den()).as_bytes())
 }
 
 // Writes the line that shows a frame, and says how long it is.
@@ -55,6 +62,18 @@ fn write_frame(line: &mut [u8; LINE_ROOM], name: &[u8], frame: &Frame) -> usize
     let at = write_value(line, at, frame.width);
     let at = write_value(line, at, frame.height);
     write_bytes(line, at, b"\n")
+}
+
+/// Appends the line that shows a frame.
+pub(crate) fn append_frame(out: &mut Vec<u8>, name: &[u8], frame: &Frame) -> Result<(), OutOfMemory>
+    requires { length name.now ≤ NAME_LIMIT }
+    ensures { IfOk result (λ _. out.new.items ≡ out.old.items
+        ++ frame_line name.now frame.now.left frame.now.top frame.now.width frame.now.height) }
+{
+    let mut line = [0; LINE_ROOM];
+    let end = write_frame(&mut line, name, frame);
+    out.extend_from_slice(&line[..end])?;
+    Ok(())
 }
 
 // Puts the line that shows a frame.

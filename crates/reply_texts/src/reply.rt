@@ -48,7 +48,9 @@ fn push_names(session: &Session, out: &mut Vec<u8>) -> Result<(), OutOfMemory>
     Ok(())
 }
 
-fn show_frames(session: &Session, out: &mut Vec<u8>) -> Result<(), OutOfMemory>
+/// Appends the reply to `frames`: the lines of the frames of all views, and `ok`. After want of memory a
+/// part of it may be there.
+pub fn show_frames(session: &Session, out: &mut Vec<u8>) -> Result<(), OutOfMemory>
     ensures { IfOk result (λ _. out.new.items ≡ out.old.items ++ frames_text session.now.scene) }
 {
     push_frames(out, session.state())?;

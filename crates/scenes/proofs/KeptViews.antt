@@ -21,7 +21,8 @@ use Rattle.layout_solver.specs.Layouts.{AreBest, IsKeptLayout, Layout, stays_at}
 use Rattle.layout_solver.specs.Removals.{stood}
 use Rattle.layout_solver.proofs.ApartValues.{stay_valued, value_in, value_is}
 use Rattle.layout_solver.proofs.KeptOrders.{front_at}
-use Rattle.layout_solver.proofs.StayNumbers.{front_permutes, numbers_held}
+use Rattle.problem_core.proofs.StayNumbers.{numbers_held}
+use Rattle.layout_solver.proofs.FrontStays.{front_permutes}
 use Rattle.held_items.specs.Attributes.{all_attributes, view_attributes}
 use Rattle.held_items.specs.Items.{Item, AreRows}
 use Rattle.held_items.proofs.Lists.{four-rising}

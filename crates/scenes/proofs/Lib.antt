@@ -12,3 +12,4 @@ pub mod Swept
 pub mod Turned
 pub mod KeptViews
 pub mod Views
+pub mod MovedFrames

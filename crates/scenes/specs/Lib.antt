@@ -7,3 +7,4 @@ pub mod Moving
 pub mod Scene
 pub mod Steps
 pub mod Sweeping
+pub mod Moves

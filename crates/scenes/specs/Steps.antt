@@ -31,7 +31,7 @@ pub record IsShifting (rows : List Row) (s : Start) : Type 0 where
 pub record IsStart (scene : Scene) (rows : List Row) (s : Start) : Type 0 where
   pub before : s.before ≡ scene.rows
   pub kept : s.kept ≡ scene.corner
-  pub way : IsJoining rows s ⊎ IsShifting rows s
+  pub kind : IsJoining rows s ⊎ IsShifting rows s
 
 -- the new scene is this draft with its rows and the best values, to whose corner a path within the budget
 -- leads

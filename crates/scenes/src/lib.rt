@@ -11,6 +11,7 @@
 //! scene.size_problem(&size)?;           // the rows with the window's two constants, and its stays
 //! scene.take_size(&size, 100_000)?;
 //! scene.frame(ViewId(0));               // left 0, top 0, width 100, height 50
+//! scene.moved()?;                       // Some([0])
 //! scene.back();                         // the window without a size again
 //! ```
 //!
@@ -26,12 +27,14 @@
 //! In reading order: `limits`; `scene` is what the held items (`held_items`) come to, with `past` (earlier
 //! scenes), `frames`, `values`, `drafts` (problems that no engine has taken), `problems` (those of a scene's
 //! changes), `solving` (the engine's changes), `steps` (the scene's) and `updates`, those in which no view
-//! comes and nothing leaves.
+//! comes and nothing leaves, and `moved` (the views whose frames are others than before); `laws`.
 #![tactic(auto)]
 
+mod laws;
 mod limits;
 mod scene;
 
+pub use laws::moved_is_not_stayed;
 pub use limits::FIRST_BUDGET;
 pub use scene::Scene;
 pub use scene::updates::{NewLine, NewMetrics, Update};

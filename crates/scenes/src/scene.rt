@@ -1,6 +1,7 @@
 // The scene: what a script has said so far, and the engine that solves it.
 pub(crate) mod drafts;
 pub(crate) mod frames;
+mod moved;
 pub(crate) mod past;
 mod problems;
 pub(crate) mod solving;

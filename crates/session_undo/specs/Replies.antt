@@ -47,10 +47,10 @@ place_of (place.Held ids) = Held ids.items
 -- why a command would clash `Solvable`, where its problem has a solution, or `Core`, with rows that clash,
 -- their multipliers, and for each row values that satisfy the others; `Swept`, with the stretches of the
 -- window's widths; and the refusals: where the line leaves the grammar, the unknown or taken name, the limit,
--- the wrong use, the multipliers of the required rows, that there is no earlier scene; and, each with what had
--- stopped, the path with the quantity that doesn't fit at its end, and the path that uses up the exchanges;
--- the attribute of a probe whose wished value doesn't fit, up or down; and the width of the window, the path
--- and what of a sweep doesn't fit at its end
+-- the wrong use, the multipliers of the required rows, that there is no earlier scene; and, each with what
+-- had stopped, the path with the quantity that doesn't fit at its end, and the path that uses up the
+-- exchanges; the attribute of a probe whose wished value doesn't fit, up or down; and the width of the
+-- window, the path and what of a sweep doesn't fit at its end
 pub data Reply : Type 0 where
   Nothing : Reply
   Done : Reply

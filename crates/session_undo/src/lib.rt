@@ -10,6 +10,7 @@
 //! session.apply(read_line(alloc, b"view card")?)?;                      // Reply::Done
 //! session.apply(read_line(alloc, b"constrain c card.width == 100")?)?;  // Reply::Done
 //! session.frame(ViewId(1));                     // left 0, top 0, width 100, height 0
+//! session.moved()?;                             // Some([1])
 //! session.undo()?;
 //! session.frame(ViewId(1));                     // the width is 0 again
 //! ```
@@ -22,7 +23,8 @@
 //! What solves a draft, and what a problem is of, is the scene's (`scenes`): a session finds the causes
 //! against a command, and tells what the scene's step came to.
 //!
-//! In reading order: `reply`, `limits`, `changes`, `draft` (what a command asks of the scene), `session`.
+//! In reading order: `reply`, `limits`, `changes`, `draft` (what a command asks of the scene), `session`, and
+//! `session::moved`, which frames are others than before the latest step.
 #![tactic(auto)]
 
 mod changes;

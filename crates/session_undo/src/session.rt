@@ -1,4 +1,6 @@
 // The session, and what each command does to it.
+mod moved;
+
 ghost use Rattle.std.specs.Prelude.{◌≡◌, ◌<◌, ◌≤◌, ◌⊎◌, true, false, length, None};
 ghost use Rattle.std.specs.Prelude.{Option, Some, ℕ, IfOk, IfErr, IfSome, IfNone, OnOk, OnErr, OnSome};
 ghost use Rattle.session_undo.specs.declared.limits.TheConstants.{BUDGET_LIMIT};

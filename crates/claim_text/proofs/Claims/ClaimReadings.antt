@@ -10,7 +10,7 @@ use Rattle.problem_core.specs.declared.parts.RowName.TheVariants.{Held, Stay as 
 use Rattle.problem_core.specs.declared.parts.Level.{Level}
 use Rattle.problem_core.specs.declared.parts.Level.TheVariants.{Priority, Stay as StayLevel}
 use Rattle.cert_core.specs.declared.by.By.{By}
-use Rattle.cert_core.specs.Claims.{BestLevel, AreBys, IsLevel, AreLevels, IsPlace}
+use Rattle.cert_core.specs.Claims.{BestLevel, AreBys, IsLevel, AreLevels, IsRanked}
 use Rattle.claim_text.specs.declared.claim.lines.ClaimLine.{ClaimLine}
 use Rattle.claim_text.specs.declared.claim.lines.ClaimLine.TheVariants.{OfValue, OfBest, OfConflict, OfLevel, OfBy, OfPath, OfPart}
 use Rattle.claim_text.specs.declared.claim.draft.Stage.{Stage}
@@ -223,13 +223,13 @@ bys_kept bys are = record {
   apart = λ i j d lt in_range. rows_apart _ _ (are.order i j d lt in_range);
 }
 
-place_is : (l : Level) → IsLevelName l → IsPlace l
-place_is (Priority rank) is = is
-place_is (StayLevel attr) is = tt
+is_ranked : (l : Level) → IsLevelName l → IsRanked l
+is_ranked (Priority rank) is = is
+is_ranked (StayLevel attr) is = tt
 
 pub levels_kept : (levels : List BestLevel) → All IsLevelRead levels → AllPairs (λ k l. IsLevelBefore k.level l.level) levels → AreLevels levels
 levels_kept levels are order = record {
-  each = All-weaker IsLevelRead IsLevel (λ l is. record { place = place_is l.level is.level; scale = is.scale; by = bys_kept l.by is.by }) levels are;
+  each = All-weaker IsLevelRead IsLevel (λ l is. record { ranked = is_ranked l.level is.level; scale = is.scale; by = bys_kept l.by is.by }) levels are;
   apart = λ i j d lt in_range. levels_apart _ _ (order i j d lt in_range);
 }
 

@@ -20,7 +20,7 @@ use Rattle.vfl_text.specs.declared.parts.Axis.TheVariants as axis
 use Rattle.script_text.specs.Meaning as mean
 use Rattle.compile_parts.specs.Meaning.{HasDenominator, MetricList, minus, terms_of, view_in, views_in}
 use Rattle.constraint_compile.specs.Compiled.{RowForm, CompiledLine}
-use Rattle.format_compile.specs.FormatParts.{End, Span, Part, View, Bar, Asks, parts, parts_over, asks, spacing_parts, item_parts, chain_parts, front_parts, back_parts, aligned_parts, align_parts, aligned_word, last_name, course_of, onwards, own, parents, size, between, near, far, extent}
+use Rattle.format_compile.specs.FormatParts.{End, Span, Part, View, Bar, Asks, parts, parts_over, asks, spacing_parts, item_parts, chain_parts, leading_parts, back_parts, aligned_parts, align_parts, aligned_word, last_name, course_of, onwards, own, parents, size, between, near, far, extent}
 use Rattle.format_compile.specs.FormatLines.{line_of, lines_of, minus_terms, name_in, name_of, ids_named, object_term, object_views, owner_name, part_views, parts_views}
 use Rattle.format_compile.specs.FormatRefusals.{lacks_parent, parent_of}
 use Rattle.format_compile.specs.FormatRows.{AreRowsOf, IsCompiledFormat}
@@ -218,7 +218,7 @@ module _ (t : ViewTree) (tree : IsTree t) where
                 (each-join IsClosePart (item_parts (course_of d x) i) (chain_parts (course_of d x) i.name gs is) here.1 rest.1),
           )
 
-      front-close : (name : List ℕ) (g : Option SpacingMeaning) → Known name → Each Holds (front_parts (course_of d x) name g) → Each IsClosePart (front_parts (course_of d x) name g)
+      front-close : (name : List ℕ) (g : Option SpacingMeaning) → Known name → Each Holds (leading_parts (course_of d x) name g) → Each IsClosePart (leading_parts (course_of d x) name g)
       front-close name None known h = tt
       front-close name (Some g) known h =
           let edge = near (course_of d x) in
@@ -245,13 +245,13 @@ module _ (t : ViewTree) (tree : IsTree t) where
     parts-close : (f : FormatMeaning) (a : Option Align) (d : Direction) (is : List ItemMeaning) → length f.spacings + 1 ≡ length is → Each Holds (parts_over f a (course_of d f.axis) is) → Each IsClosePart (parts_over f a (course_of d f.axis) is)
     parts-close f a d [] long h = tt
     parts-close f a d (i ∷ is) long h =
-        let one = each-split Holds (front_parts (course_of d f.axis) i.name f.from_parent) (item_parts (course_of d f.axis) i ++ (chain_parts (course_of d f.axis) i.name f.spacings is ++ (back_parts (course_of d f.axis) (last_name i.name is) f.to_parent ++ align_parts a i.name is))) h in
+        let one = each-split Holds (leading_parts (course_of d f.axis) i.name f.from_parent) (item_parts (course_of d f.axis) i ++ (chain_parts (course_of d f.axis) i.name f.spacings is ++ (back_parts (course_of d f.axis) (last_name i.name is) f.to_parent ++ align_parts a i.name is))) h in
         let two = each-split Holds (item_parts (course_of d f.axis) i) (chain_parts (course_of d f.axis) i.name f.spacings is ++ (back_parts (course_of d f.axis) (last_name i.name is) f.to_parent ++ align_parts a i.name is)) one.1 in
         let three = each-split Holds (chain_parts (course_of d f.axis) i.name f.spacings is) (back_parts (course_of d f.axis) (last_name i.name is) f.to_parent ++ align_parts a i.name is) two.1 in
         let four = each-split Holds (back_parts (course_of d f.axis) (last_name i.name is) f.to_parent) (align_parts a i.name is) three.1 in
         let here = item-close d f.axis i two.0 in
         let rest = chain-close d f.axis i.name f.spacings is (omega (arith, long)) here.0 three.0 in
-        each-join IsClosePart (front_parts (course_of d f.axis) i.name f.from_parent) (item_parts (course_of d f.axis) i ++ (chain_parts (course_of d f.axis) i.name f.spacings is ++ (back_parts (course_of d f.axis) (last_name i.name is) f.to_parent ++ align_parts a i.name is))) (front-close d f.axis i.name f.from_parent here.0 one.0)
+        each-join IsClosePart (leading_parts (course_of d f.axis) i.name f.from_parent) (item_parts (course_of d f.axis) i ++ (chain_parts (course_of d f.axis) i.name f.spacings is ++ (back_parts (course_of d f.axis) (last_name i.name is) f.to_parent ++ align_parts a i.name is))) (front-close d f.axis i.name f.from_parent here.0 one.0)
         (each-join IsClosePart (item_parts (course_of d f.axis) i) (chain_parts (course_of d f.axis) i.name f.spacings is ++ (back_parts (course_of d f.axis) (last_name i.name is) f.to_parent ++ align_parts a i.name is)) here.1
         (each-join IsClosePart (chain_parts (course_of d f.axis) i.name f.spacings is) (back_parts (course_of d f.axis) (last_name i.name is) f.to_parent ++ align_parts a i.name is) rest.1
         (each-join IsClosePart (back_parts (course_of d f.axis) (last_name i.name is) f.to_parent) (align_parts a i.name is)

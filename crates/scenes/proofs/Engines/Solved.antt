@@ -86,11 +86,11 @@ module _ (tree : ViewTree) (ms : MetricList) (held : List Item) (setting : Setti
 
   -- more rows join at the kept corner
   pub kept-start : (rows more : List Row) → rows ≡ l.problem.rows ++ more → IsStart (scene_at tree ms held setting l) rows (from_corner l more)
-  kept-start rows more e = record { before = refl; kept = refl; way = inl (record { primal = refl; parts = e }) }
+  kept-start rows more e = record { before = refl; kept = refl; kind = inl (record { primal = refl; parts = e }) }
 
   -- constants change at the kept corner
   pub shift-start : (rows : List Row) (to : List Change) → rows ≡ shifted to l.problem.rows → IsStart (scene_at tree ms held setting l) rows (from_shifts l)
-  shift-start rows to e = record { before = refl; kept = refl; way = inr (record { dual = refl; none = refl; alike = ap (map without_constant) e ∙ shifted-alike to l.problem.rows }) }
+  shift-start rows to e = record { before = refl; kept = refl; kind = inr (record { dual = refl; none = refl; alike = ap (map without_constant) e ∙ shifted-alike to l.problem.rows }) }
 
   abbrev Run : List Row → Layout → ℕ → Type 0
   Run more new budget = LeadsTo (from_corner l more) new budget

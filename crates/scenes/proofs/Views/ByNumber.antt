@@ -12,7 +12,7 @@ use Rattle.problem_core.specs.Gaps.{value_of}
 use Rattle.problem_core.specs.Kept.{AreRising}
 use Rattle.problem_core.specs.Layout.{HasStay}
 use Rattle.view_tree.specs.Views.{LiveView}
-use Rattle.layout_solver.proofs.StayNumbers.{numbers_held}
+use Rattle.problem_core.proofs.StayNumbers.{numbers_held}
 use Rattle.held_items.specs.Attributes.{all_attributes, view_attributes}
 use Rattle.scenes.proofs.Views.Places.{among, attributes-next, attributes-rise}
 

@@ -1,0 +1,53 @@
+// The views whose frames are others than in the latest of the earlier scenes.
+ghost use Rattle.std.specs.Prelude.{◌≡◌, [], IfOk, IfSome, IfNone};
+ghost use Rattle.std.specs.List.Sorted.{IsStrictlyIncreasing};
+ghost use Rattle.scenes.specs.Moves.{AreOwners};
+
+use crate::scene::Scene;
+use frac_core::OutOfMemory;
+use std::alloc::Global;
+
+// The numbers of the views that have these attributes, one for each of these.
+fn owners_of(alloc: Global, attrs: &[u32]) -> Result<Vec<u32>, OutOfMemory>
+    ensures { IfOk result (λ out. AreOwners attrs.now out.items) }
+{
+    let mut out = Vec::with_capacity(alloc, attrs.len())?;
+    for attr in attrs {
+        out.push(attr.saturating_sub(1) / 4)?;
+    }
+    Ok(out)
+}
+
+// The numbers of the views that have these attributes, which rise.
+fn views_of(alloc: Global, attrs: &[u32]) -> Result<Vec<u32>, OutOfMemory>
+    ensures owners { IfOk result (λ out. AreOwners attrs.now out.items) }
+    ensures rising { IfOk result (λ out. IsStrictlyIncreasing out.items) }
+{
+    let mut out = owners_of(alloc, attrs)?;
+    out.sort_unstable();
+    out.dedup();
+    Ok(out)
+}
+
+impl Scene {
+    ghost use Rattle.layout_solver.specs.Moves.{AreMovedSince};
+    ghost use Rattle.scenes.specs.Frames.{IsFrameOf};
+
+    /// The numbers of the views whose frames aren't those of the latest of the earlier scenes, rising: of
+    /// those that moved, of those that came, and of those that left. There is no answer exactly where there
+    /// is no earlier scene. It takes as long as what has changed since.
+    pub fn moved(&self) -> Result<Option<Vec<u32>>, OutOfMemory>
+        ensures some { IfOk result (λ moved. IfSome moved
+            (λ views. AreMovedSince IsFrameOf self.now.earlier self.now.scene views.items)) }
+        ensures rising { IfOk result (λ moved. IfSome moved (λ views. IsStrictlyIncreasing views.items)) }
+        ensures none { IfOk result (λ moved. IfNone moved (self.now.earlier ≡ [])) }
+    {
+        if !self.has_earlier() {
+            return Ok(None);
+        }
+        self.engine.show_layout(); // for the proof: what an engine keeps
+        let attrs = self.engine.moved()?;
+        let views = views_of(self.alloc, &attrs)?;
+        Ok(Some(views))
+    }
+}
