@@ -1,0 +1,160 @@
+-- What the calls of a session come to.
+use Rattle.std.specs.Prelude.{◌≡◌, ◌⊎◌, ◌≤◌, ◌<◌, ℕ, ℤ, pos, ◌<ℤ◌, ◌≤ℤ◌, length, take, slice_get, Bool, true, false}
+use Rattle.std.specs.Prelude.{List, [], ◌∷◌, Option, Some, None}
+use Rattle.std.specs.declared.result.Result.{Result}
+use Rattle.std.specs.declared.result.Result.TheVariants.{Ok, Err}
+use Rattle.std.specs.Option.{option_map}
+use Rattle.std.specs.Str.{IsUtf8}
+use Rattle.std.specs.List.Sorted.{IsStrictlyIncreasing}
+use Rattle.edge_io.specs.declared.feed.TheConstants.{LINE_LIMIT}
+use Rattle.frac_core.specs.Fraction.{Fraction, IsKept, IsRatio, IsUnfitRatio}
+use Rattle.script_text.specs.Meaning as mean
+use Rattle.script_text.specs.declared.words.AttrWord.{AttrWord}
+use Rattle.script_text.specs.declared.words.AttrWord.TheVariants as word
+use Rattle.scenes.specs.Scene.{Scene}
+use Rattle.scenes.specs.Frames.{IsFrameOf}
+use Rattle.view_tree.specs.Views.{view_named, view_of}
+use Rattle.layout_solver.specs.Moves.{AreMovedSince}
+use Rattle.session_undo.specs.Machine.{MeaningStep}
+use Rattle.session_undo.specs.Replies.{Reply, is_accepted}
+use Rattle.session_undo.specs.State.{State, IsFirst}
+use Rattle.session_undo.specs.declared.reply.Reply.{Reply as Answer}
+use Rattle.session_undo.specs.declared.reply.Refusal.{Refusal}
+use Rattle.session_undo.specs.declared.reply.Refusal.TheVariants.{OutOfMemory}
+use Rattle.layout_cli.specs.Machine.{Talking, Talks}
+use Rattle.layout_c.specs.declared.calls.Ratio.{Ratio}
+use Rattle.layout_c.specs.declared.calls.Frame.{Frame}
+use Rattle.layout_c.specs.declared.status.TheConstants.{DONE, REFUSED, NONE, OUT_OF_MEMORY}
+use Rattle.layout_c.specs.declared.status.TheConstants.{TOO_LONG, WRITE_FAULT}
+
+-- ---- a command
+
+-- the number for what a command came to
+abbrev pub outcome : Result Answer Refusal → ℕ
+outcome (Ok reply) = DONE
+outcome (Err OutOfMemory) = OUT_OF_MEMORY
+outcome (Err refusal) = REFUSED
+
+-- By this number a step was made that the machine allows: accepted, or refused with no change. Or memory was
+-- wanting, with no change.
+abbrev pub IsStep : (Reply → State → Type 0) → (old new : State) → ℕ → Type 0
+IsStep Allows old new answer =
+    ((reply : Reply) × Allows reply new × (is_accepted reply ≡ true) × (answer ≡ DONE))
+    ⊎ ((reply : Reply) × Allows reply old × (is_accepted reply ≡ false) × (answer ≡ REFUSED) × (new ≡ old))
+    ⊎ ((answer ≡ OUT_OF_MEMORY) × (new ≡ old))
+
+-- Such a step was made of the session, and a line that says the version comes too late from then on.
+abbrev pub Steps : (Reply → State → Type 0) → (old new : Talking) → ℕ → Type 0
+Steps Allows old new answer = IsStep Allows old.state new.state answer × (new.begun ≡ true)
+
+-- ---- numbers
+
+-- the fraction that these two numbers are, the second of which is above 0
+abbrev pub IsGiven : Ratio → Fraction → Type 0
+IsGiven r f = IsKept f × IsRatio f r.num r.den × (pos 0 <ℤ r.den)
+
+-- no fraction that fits is the one over the other
+abbrev pub IsNoFraction : ℤ → ℤ → Type 0
+IsNoFraction num den = (den ≤ℤ pos 0) ⊎ IsUnfitRatio num den
+
+-- the two numbers are the fraction's parts, which are in lowest terms and fit
+abbrev pub IsRatioOf : Ratio → Fraction → Type 0
+IsRatioOf r f = (r.num ≡ f.num) × (r.den ≡ pos f.den) × IsKept f
+
+-- the same of a frame's four
+abbrev pub AreRatios : Frame → List Fraction → Type 0
+AreRatios frame (left ∷ top ∷ width ∷ height ∷ []) = IsRatioOf frame.left left × IsRatioOf frame.top top
+    × IsRatioOf frame.width width × IsRatioOf frame.height height
+AreRatios frame fractions = ⊥
+
+-- ---- the calls
+
+-- the window gets this size as by a line; or one of the numbers is no fraction, and nothing is done
+abbrev pub Resizes : Talking → Talking → Ratio → Ratio → ℕ → Type 0
+Resizes old new width height answer =
+    ((w h : Fraction) × IsGiven width w × IsGiven height h
+    × Steps (MeaningStep old.state (mean.Window w h)) old new answer)
+    ⊎ ((IsNoFraction width.num width.den ⊎ IsNoFraction height.num height.den)
+    × (answer ≡ NONE) × (new ≡ old))
+
+-- what is done with the session that a handle holds; without one nothing is done
+abbrev pub OnHeld : Option Talking → Option Talking → ℕ → (Talking → Talking → Type 0) → Type 0
+OnHeld old new answer F = ((old ≡ None) × (answer ≡ NONE) × (new ≡ None))
+    ⊎ ((before now : Talking) × (old ≡ Some before) × (new ≡ Some now) × F before now)
+
+-- the attributes, by number
+abbrev pub attributes : List AttrWord
+attributes = word.Left ∷ word.Top ∷ word.Width ∷ word.Height ∷ word.Right ∷ word.Bottom ∷ word.CenterX
+    ∷ word.CenterY ∷ word.Leading ∷ word.Trailing ∷ []
+
+-- the attribute of a number
+abbrev pub attribute : ℕ → Option AttrWord
+attribute n = slice_get attributes n
+
+-- these bytes are no text
+abbrev pub IsNoText : List ℕ → Type 0
+IsNoText bytes = IsUtf8 bytes → ⊥
+
+-- an attribute of this number of the view of this name is wished to have a value, as by a line; or there is
+-- no such text, attribute or fraction, and nothing is done
+abbrev pub Suggests : Talking → Talking → List ℕ → ℕ → Ratio → ℕ → Type 0
+Suggests old new name attr value answer =
+    ((w : AttrWord) × (v : Fraction) × (attribute attr ≡ Some w) × IsGiven value v
+    × Steps (MeaningStep old.state (mean.Suggest name w v None)) old new answer)
+    ⊎ ((IsNoText name ⊎ (attribute attr ≡ None) ⊎ IsNoFraction value.num value.den)
+    × (answer ≡ NONE) × (new ≡ old))
+
+-- the wish goes, as by a line; or there is no such text or attribute, and nothing is done
+abbrev pub Releases : Talking → Talking → List ℕ → ℕ → ℕ → Type 0
+Releases old new name attr answer =
+    ((w : AttrWord) × (attribute attr ≡ Some w)
+    × Steps (MeaningStep old.state (mean.Release name w)) old new answer)
+    ⊎ ((IsNoText name ⊎ (attribute attr ≡ None)) × (answer ≡ NONE) × (new ≡ old))
+
+-- the number of the view of a name
+abbrev pub number_of : Scene → List ℕ → Option ℕ
+number_of scene name = option_map (λ v. v.id) (view_named scene.tree.views name)
+
+-- a new session, to which no line came
+abbrev pub IsNewSession : Talking → Type 0
+IsNewSession t = IsFirst t.state × (t.begun ≡ false)
+
+-- the number of an answer that is accepted, or not
+abbrev pub answer_of : Bool → ℕ
+answer_of true = DONE
+answer_of false = REFUSED
+
+-- A line is answered as in a run. The reply stands in the room that was given, or isn't written where that is
+-- too small: then its length tells how much is asked for. Or the line is too long, or memory was wanting, and
+-- nothing is done.
+abbrev pub IsAnswered : Talking → List ℕ → (room out : List ℕ) → ℕ → Talking → ℕ → Type 0
+IsAnswered old line room out used new answer =
+    ((text : List ℕ) × (good : Bool) × Talks old line text good new × (used ≡ length text)
+    × (((length text ≤ length room) × (take used out ≡ text) × (answer ≡ answer_of good))
+    ⊎ ((length room < length text) × (out ≡ room) × (answer ≡ WRITE_FAULT))))
+    ⊎ ((LINE_LIMIT < length line) × (answer ≡ TOO_LONG) × (new ≡ old) × (used ≡ 0))
+    ⊎ ((answer ≡ OUT_OF_MEMORY) × (new ≡ old) × (used ≡ 0))
+
+-- by this number a view of the name was found; or there is none, or the bytes are no text
+abbrev pub IsFound : Scene → List ℕ → ℕ → ℕ → Type 0
+IsFound scene name id answer = ((answer ≡ DONE) × (number_of scene name ≡ Some id))
+    ⊎ ((answer ≡ NONE) × (IsNoText name ⊎ (number_of scene name ≡ None)))
+
+-- The numbers of the views whose frames aren't those of the scene that `undo` would give back stand, rising, in
+-- the room that was given, or aren't written where that is too small: then their count tells how much is asked
+-- for. Or no earlier scene is kept, or memory was wanting.
+abbrev pub AreListed : State → (room out : List ℕ) → ℕ → ℕ → Type 0
+AreListed s room out count answer =
+    ((views : List ℕ) × AreMovedSince IsFrameOf s.earlier s.scene views × IsStrictlyIncreasing views
+    × (count ≡ length views)
+    × (((length views ≤ length room) × (take count out ≡ views) × (answer ≡ DONE))
+    ⊎ ((length room < length views) × (out ≡ room) × (answer ≡ WRITE_FAULT))))
+    ⊎ ((s.earlier ≡ []) × (answer ≡ NONE) × (count ≡ 0))
+    ⊎ ((answer ≡ OUT_OF_MEMORY) × (count ≡ 0))
+
+-- by this number the frame is that of the view of a number; or there is no such view
+abbrev pub IsFramed : Scene → ℕ → Frame → ℕ → Type 0
+IsFramed scene id frame answer =
+    ((answer ≡ DONE)
+    × ((fractions : List Fraction) × IsFrameOf scene id fractions × AreRatios frame fractions))
+    ⊎ ((answer ≡ NONE) × (view_of scene.tree.views id ≡ None))
