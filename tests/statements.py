@@ -20,7 +20,7 @@ FALSE = "unsafe extern \"C\" {\n    pub fn no_body()\n        ensures { ⊥ };\n
 
 def crates():
     lines = (line.split("#")[0].partition(":") for line in open(f"{TOP}/crates.txt"))
-    return {name.strip(): rest.split() for name, colon, rest in lines if colon}
+    return {name.split()[0]: rest.split() for name, colon, rest in lines if colon}
 
 
 def past_text(text, i):
