@@ -1,5 +1,6 @@
 -- What the calls of a session come to.
-use Rattle.std.specs.Prelude.{◌≡◌, ◌⊎◌, ◌≤◌, ◌<◌, ℕ, ℤ, pos, ◌<ℤ◌, ◌≤ℤ◌, length, take, slice_get, Bool, true, false}
+use Rattle.std.specs.Prelude.{◌≡◌, ◌⊎◌, ◌≤◌, ◌<◌, ℕ, ℤ, pos, ◌<ℤ◌, ◌≤ℤ◌, length, take, slice_get}
+use Rattle.std.specs.Prelude.{Bool, true, false}
 use Rattle.std.specs.Prelude.{List, [], ◌∷◌, Option, Some, None}
 use Rattle.std.specs.declared.result.Result.{Result}
 use Rattle.std.specs.declared.result.Result.TheVariants.{Ok, Err}
@@ -140,9 +141,9 @@ abbrev pub IsFound : Scene → List ℕ → ℕ → ℕ → Type 0
 IsFound scene name id answer = ((answer ≡ DONE) × (number_of scene name ≡ Some id))
     ⊎ ((answer ≡ NONE) × (IsNoText name ⊎ (number_of scene name ≡ None)))
 
--- The numbers of the views whose frames aren't those of the scene that `undo` would give back stand, rising, in
--- the room that was given, or aren't written where that is too small: then their count tells how much is asked
--- for. Or no earlier scene is kept, or memory was wanting.
+-- The numbers of the views whose frames aren't those of the scene that `undo` would give back stand, rising,
+-- in the room that was given, or aren't written where that is too small: then their count tells how much is
+-- asked for. Or no earlier scene is kept, or memory was wanting.
 abbrev pub AreListed : State → (room out : List ℕ) → ℕ → ℕ → Type 0
 AreListed s room out count answer =
     ((views : List ℕ) × AreMovedSince IsFrameOf s.earlier s.scene views × IsStrictlyIncreasing views

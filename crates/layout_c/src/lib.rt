@@ -220,8 +220,9 @@ pub extern "C" fn layout_frame(
 }
 
 /// The numbers of the views whose frames aren't those of the scene that [`layout_undo`] would give back,
-/// rising: right after a change that is no undo, those that it moved. `count` of them stand in front of `views`; where the answer
-/// says that writing failed there was no room for them, and `count` says how many they are.
+/// rising: right after a change that is no undo, those that it moved. `count` of them stand in front of
+/// `views`; where the answer says that writing failed there was no room for them, and `count` says how many
+/// they are.
 #[unsafe(no_mangle)]
 pub extern "C" fn layout_moved(
     alloc: Global,

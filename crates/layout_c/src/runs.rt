@@ -1,6 +1,6 @@
 // A whole run, of a script in memory.
-ghost use Rattle.std.specs.Prelude.{◌≡◌, ◌≤◌, length, take, IfOk};
-ghost use Rattle.layout_c.specs.Runs.{IsRunIn};
+ghost use Rattle.std.specs.Prelude.{◌≡◌, ◌≤◌, true, length, take, IfOk};
+ghost use Rattle.layout_c.specs.Runs.{IsFaultless, IsRunIn};
 
 use edge_io::{MemorySink, MemorySource};
 use frac_core::OutOfMemory;
@@ -19,6 +19,18 @@ pub(crate) fn put_front<T: Copy>(these: &[T], out: &mut [T]) -> usize
     used
 }
 
+// Whether a run in memory may end so, with so many bytes written. Below its room a sink in memory fails only
+// where memory is wanting, and its source fails at no pull.
+fn is_faultless(status: &Status, text: &[u8], room: usize) -> bool
+    ensures { result ≡ true → IsFaultless room text.now status.now }
+{
+    match status {
+        Status::ReadFault => false,
+        Status::WriteFault => text.len() == room,
+        _ => true,
+    }
+}
+
 /// Answers a whole script in memory: how that ended, and how many bytes of replies stand in `out`.
 pub(crate) fn run_here(
     alloc: Global,
@@ -35,6 +47,9 @@ pub(crate) fn run_here(
     let text = sink.bytes();
     if out.len() < text.len() {
         return Ok((Status::WriteFault, 0));
+    }
+    if !is_faultless(&status, text, out.len()) {
+        return Err(OutOfMemory);
     }
     Ok((status, put_front(text, out)))
 }
