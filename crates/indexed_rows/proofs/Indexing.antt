@@ -1,10 +1,10 @@
 -- The index of rows that change.
-use Rattle.std.proofs.Common.{◌≡◌, ◌≢◌, ◌↔◌, ◌∙◌, ◌⊎◌, inl, inr, ℕ, zero, suc, ◌<◌, List, [], ◌∷◌, ◌++◌, length, take, set, get_or, Some, pos, sym, refl, subst, ap, arith, All}
+use Rattle.std.proofs.Common.{◌≡◌, ◌≢◌, ◌↔◌, ◌∙◌, ◌⊎◌, inl, inr, ℕ, zero, suc, ◌<◌, ◌≤◌, List, [], ◌∷◌, ◌++◌, length, take, set, get_or, Some, pos, sym, refl, subst, ap, arith, All}
 use Rattle.std.specs.List.{AllZip, Contains}
 use Rattle.indexed_rows.specs.declared.list.Column.{Column}
 use Rattle.std.specs.Prelude.{slice_get}
-use Rattle.std.proofs.lemmas.Bool.{cases_eq}
-use Rattle.std.proofs.lemmas.List.{length-set, length-append, get_or-set_same, get_or-set_other}
+use Rattle.std.proofs.lemmas.Bool.{cases_eq, cases_lt}
+use Rattle.std.proofs.lemmas.List.{length-set, length-append, length-take, get_or-set_same, get_or-set_other, get_or-take, get_or_past}
 use Rattle.std.proofs.lemmas.List.Elements.{All-cons, Contains-get_or}
 use Rattle.std.proofs.Math.Seq.{get_or-append_seam}
 use Rattle.row_core.specs.Rows.{Term, coefficient, IsKeptRow}
@@ -12,6 +12,7 @@ use Rattle.row_core.proofs.Places.{absent, coefficient_at}
 use Rattle.row_core.proofs.Walks.{nothing}
 use Rattle.indexed_rows.specs.Indexes.{IsColumnOf, IsIndexOf, list_at, row_at}
 use Rattle.indexed_rows.specs.Lists.{HasColumn, IsListedAt, IsSameBut}
+use Rattle.indexed_rows.specs.Matrices.{IsBelow}
 use Rattle.indexed_rows.proofs.Columns.{listed_within}
 
 -- ---- the versions
@@ -202,3 +203,57 @@ index_appended rows lists new v row empty index kept own same =
     subst (λ (rs : List (List Term)). IsIndexOf rs new) (set_last rows row)
     (index_after (rows ++ [] ∷ []) (lists ++ v ∷ []) new (length rows) row (index_pushed rows lists v empty index)
     (omega (arith, length-append rows ([] ∷ []))) kept own same)
+
+-- ---- the last slots go
+
+list_cut : (n : ℕ) (lists : List Column) (c : ℕ) → c < n → list_at (take n lists) c ≡ list_at lists c
+list_cut zero lists c less = absurd (omega (arith, less))
+list_cut (suc n) [] c less = refl
+list_cut (suc n) (l ∷ lists) zero less = refl
+list_cut (suc n) (l ∷ lists) (suc c) less = list_cut n lists c (omega (arith, less))
+
+list_past : (n : ℕ) (lists : List Column) (c : ℕ) → n ≤ c → list_at (take n lists) c ≡ []
+list_past zero lists c from = refl
+list_past (suc n) [] c from = refl
+list_past (suc n) (l ∷ lists) zero from = absurd (omega (arith, from))
+list_past (suc n) (l ∷ lists) (suc c) from = list_past n lists c (omega (arith, from))
+
+-- the rows that go are empty
+row_cut : (n : ℕ) (rows : List (List Term)) (w : ℕ) → ((v : ℕ) → n ≤ v → row_at rows v ≡ []) → row_at (take n rows) w ≡ row_at rows w
+row_cut n rows w empty =
+    elim (cases_lt w n) [
+      | inl less ↦ get_or-take n rows w [] less
+      | inr from ↦ get_or_past (take n rows) w [] (omega (arith, length-take n rows, from)) ∙ sym (empty w (omega (arith, from)))
+    ]
+
+-- no row stands at a column from n on
+none_from : (n : ℕ) (rows : List (List Term)) (c w : ℕ) → n ≤ c → All (IsBelow n) rows → coefficient c (row_at rows w) ≡ pos 0
+none_from n rows c w from below =
+    elim (cases_lt w (length rows)) [
+      | inl less ↦ absent c (row_at rows w) (λ k d within. omega (arith, below w [] less k d within, from))
+      | inr past ↦ ap (λ (row : List Term). coefficient c row) (get_or_past rows w [] (omega (arith, past)))
+    ]
+
+column_cut : (n : ℕ) (rows : List (List Term)) (lists : List Column) (c : ℕ) → All (IsBelow n) rows → IsColumnOf rows c (list_at lists c) → IsColumnOf rows c (list_at (take n lists) c)
+column_cut n rows lists c below is =
+    elim (cases_lt c n) [
+      | inl less ↦ subst (λ (list : List ℕ). IsColumnOf rows c list) (sym (list_cut n lists c less)) is
+      | inr from ↦
+          subst (λ (list : List ℕ). IsColumnOf rows c list) (sym (list_past n lists c (omega (arith, from))))
+          (record {
+            rising = λ i j d less within. absurd (omega (arith, within));
+            exact = λ w. (λ h. absurd (omega (arith, h.1)), λ h. absurd (h (none_from n rows c w (omega (arith, from)) below)));
+          })
+    ]
+
+pub index_cut : (n : ℕ) (rows : List (List Term)) (lists : List Column) → ((w : ℕ) → n ≤ w → row_at rows w ≡ []) → All (IsBelow n) rows → IsIndexOf rows lists
+    → IsIndexOf (take n rows) (take n lists)
+index_cut n rows lists empty below index = record {
+  lengths = omega (arith, length-take n lists, length-take n rows, index.lengths);
+  columns = λ c.
+      let is : IsColumnOf rows c (list_at (take n lists) c) = column_cut n rows lists c below (index.columns c) in
+      record {
+        rising = is.rising;
+        exact = λ w. rw (row_cut n rows w empty) (is.exact w);
+      };
+}

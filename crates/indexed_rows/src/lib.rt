@@ -31,7 +31,7 @@
 //! where they differ, and this file keeps rows and lists together.
 #![tactic(auto)]
 
-ghost use Rattle.std.specs.Prelude.{◌≡◌, ◌+◌, ◌-◌, ◌<◌, ◌≤◌, ◌==◌, ◌^◌, ◌∷◌, ◌++◌, [], length, take, All};
+ghost use Rattle.std.specs.Prelude.{ℕ, ◌≡◌, ◌+◌, ◌-◌, ◌<◌, ◌≤◌, ◌==◌, ◌^◌, ◌∷◌, ◌++◌, [], length, take, All};
 ghost use Rattle.std.specs.Prelude.{IfOk, OnOk, OnErr, slice_get, slice_set, slice_index_or};
 ghost use Rattle.frac_core.specs.Fraction.{IsFitting};
 ghost use Rattle.row_core.specs.Rows.{IsKeptRow, coefficient};
@@ -118,6 +118,25 @@ fn append(
     };
     relist(lists, &change)?;
     rows.push(row)
+}
+
+// Takes the slots from one on out, whose rows are empty and which stand in no row.
+fn cut(
+    rows: &mut VersionList<IntRow>,
+    lists: &mut VersionList<Column>,
+    len: usize,
+) -> Result<(), OutOfMemory>
+    requires within { len ≤ length rows.old.items }
+    requires empty { (w : ℕ) → len ≤ w → row_at rows.old.items w ≡ [] }
+    requires below { All (IsBelow len) rows.old.items }
+    requires indexed { IsIndexOf rows.old.items lists.old.items }
+    ensures ok { OnOk result (rows.new.items ≡ take len rows.old.items) }
+    ensures indexed { OnOk result (IsIndexOf rows.new.items lists.new.items) }
+    ensures rows_before { rows.new.before ≡ rows.old.before }
+    ensures lists_before { lists.new.before ≡ lists.old.before }
+{
+    rows.truncate(len)?;
+    lists.truncate(len)
 }
 
 impl IndexedRows {
@@ -217,6 +236,24 @@ impl IndexedRows {
         ensures before { self.new.before ≡ self.old.before }
     {
         let done = append(&mut self.rows, &mut self.lists, self.alloc, row);
+        if done.is_err() {
+            self.rows.rewind();
+            self.lists.rewind();
+        }
+        done
+    }
+
+    /// Takes the slots from one on out, whose rows are empty and which stand in no row. After want of memory
+    /// the rows are as after `rewind`.
+    pub fn truncate(&mut self, len: usize) -> Result<(), OutOfMemory>
+        requires within { len ≤ length self.old.rows }
+        requires empty { (w : ℕ) → len ≤ w → row_at self.old.rows w ≡ [] }
+        requires below { All (IsBelow len) self.old.rows }
+        ensures ok { OnOk result (self.new.rows ≡ take len self.old.rows) }
+        ensures err { OnErr result (self.new.rows ≡ slice_index_or self.old.before 0 []) }
+        ensures before { self.new.before ≡ self.old.before }
+    {
+        let done = cut(&mut self.rows, &mut self.lists, len);
         if done.is_err() {
             self.rows.rewind();
             self.lists.rewind();

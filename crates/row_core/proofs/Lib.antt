@@ -5,5 +5,6 @@ pub mod Lowest
 pub mod Negated
 pub mod Patches
 pub mod Places
+pub mod Renames
 pub mod Sizes
 pub mod Walks

@@ -1,3 +1,4 @@
 pub mod Combinations
+pub mod Renames
 pub mod Rows
 pub mod Walks

@@ -6,6 +6,7 @@ ghost use Rattle.frac_core.specs.Fraction.{IsFitting};
 ghost use Rattle.row_core.specs.Rows.{IsRising, AllFit, IsKeptRow, IsReduced, IsUnfit, coefficient};
 ghost use Rattle.row_core.specs.Rows.{combination};
 ghost use Rattle.row_core.specs.Combinations.{IsFactor, combination_but};
+ghost use Rattle.row_core.specs.Renames.{AreKeptApart, renamed};
 ghost use Rattle.row_core.specs.Walks.{CanBeAdded, HasNarrowProducts, HasSmallProducts};
 ghost use Rattle.row_core.specs.Walks.{IsNarrowSum, whole};
 ghost use Rattle.frac_core.specs.Stops.{IsRefused};
@@ -186,6 +187,20 @@ impl IntRow {
         ensures unfit { IfErr result (λ stop. IsRefused stop → IsUnfit (λ c. coefficient c entries.now)) }
     {
         lowest(alloc, &plain(entries, &[], Factors { k: 1, n: 0 }))
+    }
+
+    /// The row with other columns in the places of its own, which rise as they did.
+    pub fn renamed(&self, alloc: Global, places: &[u32]) -> Result<IntRow, OutOfMemory>
+        requires { AreKeptApart places.now self.now }
+        ensures value { IfOk result (λ row. row ≡ renamed places.now self.now) }
+        ensures kept { IfOk result IsKeptRow }
+    {
+        let mut entries = Vec::with_capacity(alloc, self.entries.len())?;
+        for e in self.entries.as_slice() {
+            let col = Col(u64::from(places[e.col.0 as usize]));
+            entries.push(Entry { col, by: e.by })?;
+        }
+        Ok(IntRow { entries })
     }
 
     /// The number at a column, which is 0 where the row has none.

@@ -12,6 +12,7 @@
 //! |---|---|
 //! | `put`, `push` | constant, beside what a growing `Vec` moves |
 //! | `remove` | a move of each element behind the place |
+//! | `truncate` | constant for each element that leaves |
 //! | `edit` | a clone of the element where it was not written since the mark, and else constant |
 //! | `mark`, `forget` | constant, beside dropping the log of the version that is forgotten |
 //! | `back` | what was put, pushed and removed since the mark |
@@ -196,6 +197,21 @@ impl<T: Drop> VersionList<T> {
             return Ok(());
         }
         take_out(&mut self.logs[0], &mut self.list, i, self.alloc)
+    }
+
+    /// Takes the elements from a place on out, the last one first. After want of memory some of them have
+    /// left.
+    pub fn truncate(&mut self, len: usize) -> Result<(), OutOfMemory>
+        requires { len ≤ length self.old.items }
+        ensures ok { OnOk result (self.new.items ≡ take len self.old.items) }
+        ensures before { self.new.before ≡ self.old.before }
+    {
+        let mut count = self.len();
+        while count > len {
+            count -= 1;
+            self.remove(count)?;
+        }
+        Ok(())
     }
 
     /// Makes the elements of now the newest earlier version, and forgets the oldest where there are too many.

@@ -1,0 +1,4 @@
+pub mod ByNumber
+pub mod Searches
+pub mod Edits
+pub mod Packs
