@@ -16,7 +16,7 @@ listed_at s Over = s.over
 abbrev pub AreSafe : Lists → Safe → Type 0
 AreSafe t s = (side : Side) (w : ℕ) → Contains (listed_at s side) w → IsRowDear t w side 0 (row_at t w)
 
--- this line with this side is listed, and none besides that was not
+-- no line is listed but this one with this side and those that were listed
 abbrev pub IsNoted : ℕ → Side → Safe → Safe → Type 0
 IsNoted line side old new = (d : Side) (w : ℕ) → Contains (listed_at new d) w
     → Contains (listed_at old d) w ⊎ ((d ≡ side) × (w ≡ line))

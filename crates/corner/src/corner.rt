@@ -51,7 +51,8 @@ ghost use Rattle.corner_table.specs.Tables as tables;
 ghost use Rattle.corner_table.specs.Tables.{Lists, lists_of, marks_at, problem_of};
 ghost use Rattle.corner_table.specs.Histories.{AreAlike, lists_before};
 ghost use Rattle.stay_orders.specs.Orders.{fronted};
-ghost use Rattle.corner_table.specs.Invariants.{IsConsistent, IsEarlier, view_of};
+ghost use Rattle.corner_table.specs.Invariants.{IsConsistent, IsEarlier, names_of, seen_of, view_of};
+ghost use Rattle.corner_table.specs.Kept.{HasSlotsLeft};
 
 use crate::fronting::front_stays;
 use crate::leaving::dropping::{drop_line, drop_stay, list_left};
@@ -63,9 +64,10 @@ use crate::standing::stand_stays;
 use cert_core::RunStop;
 use corner_exchange::{exchange_of, put_exchange, put_turn, put_unlisted, turn_of, turn_unlisted};
 use corner_joins::{join_all, push_attr};
+use corner_packing::pack;
 use corner_table::{
-    Listed, Table, attr_slot, back, forget, is_level, level_slot, line_slot, mark, marks_with,
-    name_at, new_table, other, rewind, slot_at,
+    Listed, Table, attr_slot, back, forget, is_crowded, is_level, level_slot, line_slot, mark,
+    marks_with, name_at, new_table, other, rewind, slot_at,
 };
 use corner_writings::{
     Front, Fronts, Pair, are_growers_dear, attr_value, coefficient, cost_at, denominator,
@@ -354,6 +356,67 @@ fn put_front(table: &mut Table, listed: &mut Listed, attrs: &[u32]) -> Result<()
     ensures alike { AreAlike table.new }
 {
     front_stays(table, listed, attrs)
+}
+
+// Takes the slots of nothing out where there are as many of them as of something.
+fn make_room(table: &mut Table, listed: &mut Listed) -> Result<(), OutOfMemory>
+    requires { IsConsistent table.old listed.old }
+    ensures consistent { OnOk result (IsConsistent table.new listed.new) }
+    ensures left { OnOk result (HasSlotsLeft (lists_of table.new)) }
+    ensures problem { OnOk result (problem_of (lists_of table.new) ≡ problem_of (lists_of table.old)) }
+    ensures marks { OnOk result (marks_at (lists_of table.new) ≡ marks_at (lists_of table.old)) }
+    ensures names { OnOk result (names_of (lists_of table.new) listed.new
+        ≡ names_of (lists_of table.old) listed.old) }
+    ensures before { lists_before table.new ≡ lists_before table.old }
+    ensures alike { AreAlike table.new }
+{
+    if is_crowded(table) {
+        return pack(table, listed);
+    }
+    Ok(())
+}
+
+// Adds an attribute at this value, and its stay.
+fn join_attr(
+    table: &mut Table,
+    listed: &mut Listed,
+    attr: u32,
+    target: Frac,
+) -> Result<(), OutOfMemory>
+    requires consistent { IsConsistent table.old listed.old }
+    requires number { IsNumber attr }
+    requires fresh { HasStay table.old.stays.items attr → ⊥ }
+    requires room { length table.old.stays.items < ROW_LIMIT }
+    ensures consistent { OnOk result (IsConsistent table.new listed.new) }
+    ensures problem { OnOk result (problem_of (lists_of table.new)
+        ≡ with_attr attr target (problem_of (lists_of table.old))) }
+    ensures marks { OnOk result (marks_at (lists_of table.new) ≡ marks_at (lists_of table.old)) }
+    ensures names { OnOk result (names_of (lists_of table.new) listed.new
+        ≡ names_of (lists_of table.old) listed.old) }
+    ensures before { lists_before table.new ≡ lists_before table.old }
+    ensures alike { AreAlike table.new }
+{
+    make_room(table, listed)?;
+    push_attr(table, attr, target)
+}
+
+// Adds rows, each with its mark that is not negative.
+fn join_rows(table: &mut Table, listed: &mut Listed, rows: &[Row]) -> Result<(), RunStop>
+    requires consistent { IsConsistent table.old listed.old }
+    requires whole { IsWhole (with_rows rows.now (problem_of (lists_of table.old))) }
+    requires values { NoNegativeValue (problem_of (lists_of table.old)) (marks_at (lists_of table.old)) }
+    ensures consistent { OnOk result (IsConsistent table.new listed.new) }
+    ensures problem { OnOk result (problem_of (lists_of table.new)
+        ≡ with_rows rows.now (problem_of (lists_of table.old))) }
+    ensures marks { OnOk result (BeginsWith (problem_of (lists_of table.new)) (marks_at (lists_of table.old))
+        rows.now [] (marks_at (lists_of table.new))) }
+    ensures fits { OnOk result (AllSumsFit (seen_of (lists_of table.old)) rows.now) }
+    ensures before { lists_before table.new ≡ lists_before table.old }
+    ensures alike { AreAlike table.new }
+    ensures stop { IfErr result (IsAddStop (seen_of (lists_of table.old)) rows.now) }
+{
+    make_room(table, listed)?;
+    join_all(table, listed, rows)
 }
 
 // Whether both are marks of one line.
@@ -675,8 +738,8 @@ impl Corner {
         exchange_lines(&mut self.table, &mut self.listed, pair)
     }
 
-    /// Exchanges an outside mark for an inside one that moves with it, as `swap` does, where no column is
-    /// negative after it. No line more is listed.
+    /// Exchanges an outside mark for an inside one that moves with it, where no outside mark has a negative
+    /// column after it.
     ///
     /// `Refused` names what does not fit at the new corner, and the corner is as before. After want of memory
     /// it is that of the newest mark.
@@ -728,7 +791,7 @@ impl Corner {
         ensures same { OnErr result (IsRewound self.old self.new) }
     {
         clear_safe(&mut self.safe);
-        match push_attr(&mut self.table, attr, target) {
+        match join_attr(&mut self.table, &mut self.listed, attr, target) {
             Ok(()) => Ok(()),
             Err(OutOfMemory) => {
                 take_back(&mut self.table, &mut self.listed);
@@ -756,7 +819,7 @@ impl Corner {
         ensures same { OnErr result (IsRewound self.old self.new) }
     {
         clear_safe(&mut self.safe);
-        match join_all(&mut self.table, &mut self.listed, rows) {
+        match join_rows(&mut self.table, &mut self.listed, rows) {
             Ok(()) => Ok(()),
             Err(stop) => {
                 take_back(&mut self.table, &mut self.listed);

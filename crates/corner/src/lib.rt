@@ -34,9 +34,10 @@
 //! ```
 //!
 //! What the type keeps (`IsConsistent`): each attribute, line and priority level has a slot, which is a row
-//! and a column of one sparse matrix; what is taken out leaves a slot of nothing. The row and the value of an
-//! attribute or an inside line are its equation by the outside lines in lowest terms, and those of a level
-//! are its cost; so are those at each earlier mark.
+//! and a column of one sparse matrix; what is taken out leaves a slot of nothing, and slots of what left are
+//! used again where there are more of them than of something. The row and the value of an attribute or an
+//! inside line are its equation by the outside lines in lowest terms, and those of a level are its cost; so
+//! are those at each earlier mark.
 //!
 //! Linear programming's words: the marks inside are the basis, and the values there its basic solution; a
 //! mark is the slack or the surplus variable of its line. A writing is a row of the tableau in lowest terms;
@@ -45,11 +46,11 @@
 //! 0. [`Corner::swap`] is a pivot, for which the caller makes the ratio test.
 //!
 //! The lists are a `Table` of `corner_table`, of which `corner_writings` reads. `corner_exchange` goes to the
-//! next corner, `corner_joins` to that of a larger problem. To read: `shifting` goes to that with another
-//! constant, `standing` to that with other targets, `fronting` to that with another order of stays,
-//! `leaving`, with `leaving::freeing` and `leaving::dropping`, to that of a smaller problem; `safe` lists the
-//! lines that are known to be safe to turn; `lows` finds a line's mark with a negative value; and `corner` is
-//! what callers use.
+//! next corner, `corner_joins` to that of a larger problem, and `corner_packing` takes slots of nothing out.
+//! To read: `shifting` goes to that with another constant, `standing` to that with other targets, `fronting`
+//! to that with another order of stays, `leaving`, with `leaving::freeing` and `leaving::dropping`, to that of
+//! a smaller problem; `safe` lists the lines that are known to be safe to turn; `lows` finds a line's mark
+//! with a negative value; and `corner` is what callers use.
 #![tactic(auto)]
 
 mod corner;

@@ -3,6 +3,7 @@ pub mod PartFacts
 pub mod RowPlaces
 pub mod RowTerms
 pub mod RowPlaced
+pub mod SlotsLeft
 pub mod RowKept
 pub mod RowLevels
 pub mod RowJoins

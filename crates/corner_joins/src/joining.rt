@@ -17,13 +17,13 @@ ghost use Rattle.problem_core.specs.declared.stops.Quantity.TheVariants.{Rows, T
 ghost use Rattle.frac_core.specs.declared.memory.Stop.TheVariants.{Refused};
 ghost use Rattle.corner_lines.specs.LineEquations.{deviation as deviation_of};
 ghost use Rattle.corner_table.specs.Tables.{lists_of, marks_at, priority_at as level_at, problem_of, row_at};
-ghost use Rattle.corner_table.specs.declared.table.TheConstants.{LEVELS};
+ghost use Rattle.corner_table.specs.declared.table.TheConstants.{LEVELS, MOST_SLOTS};
 ghost use Rattle.corner_table.specs.Histories.{HasSameHistory};
 ghost use Rattle.corner_laws.specs.Lifts.{with_rows};
 ghost use Rattle.corner_joins.specs.Stops.{AllSumsFit, IsAddStop};
 ghost use Rattle.corner_table.specs.Paths.{IsPathStop};
 ghost use Rattle.corner_table.specs.Invariants.{seen_of};
-ghost use Rattle.corner_table.specs.Kept.{AreSlots, IsKept};
+ghost use Rattle.corner_table.specs.Kept.{AreSlots, HasSlotsLeft, IsKept};
 ghost use Rattle.corner_joins.specs.Additions.Parts.{CanTakeRow, IsPartlyKept, IsTermsStop, IsWithRow};
 ghost use Rattle.corner_joins.specs.Additions.RowJoins.{AreAsBefore, ArePushed, IsPlaced, IsPushed};
 ghost use Rattle.corner_joins.specs.Additions.RowJoins.{IsStandingOf};
@@ -60,8 +60,8 @@ use cert_core::RunStop;
 use corner_exchange::{Change, named_row, named_sum, negated, put_change};
 use corner_table::{
     Listed, OWN_RANK, Owner, Priority, Slot, Standing, Table, attr_slot, costs, line_slot,
-    list_row, next_slot, own_of, path_stop, priority_at, priority_level, product, push_slot,
-    put_number, share, side_in, sign, slot_at, value_at,
+    list_row, next_slot, own_of, path_stop, priority_at, priority_level, product, push_slot, share,
+    side_in, sign, slot_at, value_at,
 };
 use corner_writings::{Draft, Pair, does_level_fit};
 use frac_core::{Frac, OutOfMemory, PART_BOUND, Stop, common_divisor};
@@ -118,15 +118,15 @@ fn attr_row(alloc: Global, at: u32) -> Result<IntRow, OutOfMemory>
 // Adds an attribute at this value and its stay, which is outside.
 fn place_attr(table: &mut Table, attr: u32, target: Frac) -> Result<(), OutOfMemory>
     requires kept { IsKept (lists_of table.old) }
-    requires room { length table.old.stays.items < ROW_LIMIT }
+    requires room { length table.old.slots.items + 2 ≤ MOST_SLOTS }
     ensures past { HasSameHistory table.old table.new }
     ensures lists { OnOk result (IsWithAttr attr target (lists_of table.old) (lists_of table.new)) }
 {
-    let at = next_slot(table)?;
+    let at = next_slot(table);
     push_attr_slots(table, attr, target, at)?;
     let row = attr_row(table.alloc, at)?;
     table.matrix.put(at, row)?;
-    put_number(&mut table.attr_slots, attr, at)?;
+    table.attr_slots.put(attr, at)?;
     table.stays.push(Stay { attr, target })
 }
 
@@ -136,9 +136,11 @@ pub fn push_attr(table: &mut Table, attr: u32, target: Frac) -> Result<(), OutOf
     requires number { IsNumber attr }
     requires fresh { HasStay table.old.stays.items attr → ⊥ }
     requires room { length table.old.stays.items < ROW_LIMIT }
+    requires left { HasSlotsLeft (lists_of table.old) }
     ensures past { HasSameHistory table.old table.new }
     ensures lists { OnOk result (IsWithAttr attr target (lists_of table.old) (lists_of table.new)) }
     ensures kept { OnOk result (IsKept (lists_of table.new)) }
+    ensures left { OnOk result (HasSlotsLeft (lists_of table.new)) }
     ensures value { fractions.IsKept target }
 {
     let _ = target.den(); // for the proof: what a fraction keeps
@@ -344,10 +346,10 @@ fn place_row(table: &mut Table, row: &Row, sum: Sum) -> Result<(), OutOfMemory>
     ensures past { HasSameHistory table.old table.new }
     ensures lists { OnOk result (IsPlaced row.now sum (lists_of table.old) (lists_of table.new)) }
 {
-    let at = next_slot(table)?;
+    let at = next_slot(table);
     let standing = standing_of(sum.value);
     push_slot(table, slot_of(row), standing.side, standing.value, sum.row)?;
-    put_number(&mut table.row_slots, row.id(), at)?;
+    table.row_slots.put(row.id(), at)?;
     table.rows.push(copy_of(row)?)
 }
 
@@ -358,6 +360,7 @@ pub(crate) fn push_row(table: &mut Table, row: &Row) -> Result<(), TableStop>
     ensures lists { OnOk result (IsPushed row.now (lists_of table.old) (lists_of table.new)) }
     ensures joined { OnOk result (IsWithRow row.now (lists_of table.old) (lists_of table.new)) }
     ensures kept { OnOk result (IsPartlyKept (lists_of table.new)) }
+    ensures left { OnOk result (HasSlotsLeft (lists_of table.new)) }
     ensures fits { OnOk result (DoFirstTermsFit (lists_of table.old) row.now (length row.now.terms + 1)) }
     ensures stop { IfErr result (IsTermsStop (lists_of table.old) row.now) }
     ensures same { IfErr result (AreAsBefore (lists_of table.old) (lists_of table.new)) }
@@ -732,6 +735,7 @@ fn added_stop(table: &Table, rest: &[Row], stop: TableStop) -> RunStop
 // Adds all rows as such.
 fn push_rows(table: &mut Table, rows: &[Row]) -> Result<(), RunStop>
     requires kept { IsPartlyKept (lists_of table.old) }
+    requires left { HasSlotsLeft (lists_of table.old) }
     requires whole { IsWhole (with_rows rows.now (problem_of (lists_of table.old))) }
     requires values { NoNegativeValue (problem_of (lists_of table.old)) (marks_at (lists_of table.old)) }
     ensures past { HasSameHistory table.old table.new }
@@ -739,6 +743,7 @@ fn push_rows(table: &mut Table, rows: &[Row]) -> Result<(), RunStop>
     ensures begins { OnOk result (BeginsWith (problem_of (lists_of table.new)) (marks_at (lists_of table.old))
         rows.now [] (marks_at (lists_of table.new))) }
     ensures kept { OnOk result (IsPartlyKept (lists_of table.new)) }
+    ensures left { OnOk result (HasSlotsLeft (lists_of table.new)) }
     ensures values { OnOk result (NoNegativeValue (problem_of (lists_of table.new))
         (marks_at (lists_of table.new))) }
     ensures fits { OnOk result (DoRowsFit (lists_of table.old) rows.now (length rows.now)) }
@@ -793,10 +798,12 @@ fn join_costs(table: &mut Table, listed: &mut Listed, rows: &[Row]) -> Result<()
 /// Adds rows as such, and then to the costs of their levels.
 pub fn join_all(table: &mut Table, listed: &mut Listed, rows: &[Row]) -> Result<(), RunStop>
     requires kept { IsKept (lists_of table.old) }
+    requires left { HasSlotsLeft (lists_of table.old) }
     requires whole { IsWhole (with_rows rows.now (problem_of (lists_of table.old))) }
     requires values { NoNegativeValue (problem_of (lists_of table.old)) (marks_at (lists_of table.old)) }
     ensures joined { OnOk result (AreAllJoined rows.now (lists_of table.old) listed.old
         (lists_of table.new) listed.new) }
+    ensures left { OnOk result (HasSlotsLeft (lists_of table.new)) }
     ensures fits { OnOk result (AllSumsFit (seen_of (lists_of table.old)) rows.now) }
     ensures before { lists_before table.new ≡ lists_before table.old }
     ensures alike { AreAlike table.old → AreAlike table.new }

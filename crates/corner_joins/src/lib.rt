@@ -3,7 +3,7 @@
 //! All is done on a `Table` of `corner_table`. [`push_attr`] adds an attribute that stands at its stay's
 //! target. [`join_all`] adds rows: first each as a line, whose writing by the outside lines is the sum of its
 //! terms', with the mark inside that isn't negative; then each to the cost of its level, and it lists the
-//! lines that may have a negative column now.
+//! lines that may have a negative column now. Both want slots left for what comes, and leave as many.
 //!
 //! ```
 //! push_attr(&mut table, 1, Frac::zero())?;             // attribute 1 at 0, which its stay asks for

@@ -6,3 +6,4 @@ pub mod WritingFacts
 pub mod KeptFacts
 pub mod MarkingFacts
 pub mod MoveFacts
+pub mod ListedFacts

@@ -1,7 +1,8 @@
 -- How attributes and rows join the lists of a corner.
 use Rattle.std.specs.Prelude.{◌≡◌, ◌≢◌, ℕ, zero, suc, ◌+◌, cond, nat_eq, List, [], ◌∷◌, ◌++◌, length}
-use Rattle.std.specs.Prelude.{◌^◌, ◌<◌, slice_index_or, pos, negsuc, None}
+use Rattle.std.specs.Prelude.{◌≤◌, pos, negsuc, None}
 use Rattle.frac_core.specs.Fraction.{Fraction}
+use Rattle.number_slots.specs.Numbers.{IsNumbered}
 use Rattle.row_core.specs.Rows.{IsKeptRow, Term, coefficient}
 use Rattle.problem_core.specs.Layout.{Row, rank_level}
 use Rattle.problem_core.specs.Window.{zero_fraction}
@@ -13,7 +14,7 @@ use Rattle.corner_table.specs.declared.table.Owner.TheVariants.{Attr as AttrSlot
 use Rattle.corner_table.specs.declared.table.Slot.{Slot}
 use Rattle.corner_table.specs.declared.table.Standing.{Standing}
 use Rattle.corner_table.specs.declared.table.Table.{Table}
-use Rattle.corner_table.specs.declared.table.TheConstants.{OWN_RANK}
+use Rattle.corner_table.specs.declared.table.TheConstants.{MOST_SLOTS, OWN_RANK}
 use Rattle.corner_table.specs.Tables.{Lists, row_at}
 
 -- ---- earlier versions
@@ -75,11 +76,6 @@ levels_below (suc n) = with_level n (levels_below n)
 
 -- ---- an attribute joins
 
--- the number has this slot, and all others have theirs
-pub record IsNumbered (number slot : ℕ) (old new : List ℕ) : Type 0 where
-  pub here : slice_index_or new number 0 ≡ slot
-  pub others : (n : ℕ) → n ≢ number → slice_index_or new n 0 ≡ slice_index_or old n 0
-
 -- the row of an attribute's slot, which is the deviation of its stay in the next one
 abbrev pub IsStayForm : ℕ → List Term → Type 0
 IsStayForm w row = (c : ℕ)
@@ -129,7 +125,7 @@ slot_of_row r = record {
 
 -- with a new attribute in the next slot, at its target, and its stay behind it, at 0
 pub record IsWithAttr (attr : ℕ) (target : Fraction) (old new : Lists) : Type 0 where
-  pub room : length old.slots + 2 < 2 ^ 32
+  pub room : length old.slots + 2 ≤ MOST_SLOTS
   pub rows : new.rows ≡ old.rows
   pub stays : new.stays ≡ old.stays ++ (new_stay attr target ∷ [])
   pub slots : new.slots ≡ (old.slots ++ (slot_of_attr attr (length old.slots) ∷ []))

@@ -24,7 +24,7 @@ use Rattle.corner_lines.specs.LineEquations.{IsLineEquation, IsOutsideLine, devi
 use Rattle.corner_table.specs.declared.table.Owner.{Owner}
 use Rattle.corner_table.specs.declared.table.Owner.TheVariants.{Level as LevelSlot, Attr as AttrSlot}
 use Rattle.corner_table.specs.declared.table.Owner.TheVariants.{Line as LineSlot}
-use Rattle.corner_table.specs.declared.table.TheConstants.{LEVELS, OWN_RANK}
+use Rattle.corner_table.specs.declared.table.TheConstants.{LEVELS, MOST_SLOTS, OWN_RANK, SPARE_SLOTS}
 use Rattle.corner_table.specs.Tables.{Lists, attr_slot, entry, line_slot, marks_at, number, priority_at}
 use Rattle.corner_table.specs.Tables.{problem_of}
 use Rattle.corner_table.specs.Tables.{row_at, slot_at, standing_at, stay_rank}
@@ -94,9 +94,17 @@ pub record AreSlots (t : Lists) : Type 0 where
 abbrev pub IsLineAt : Lists → ℕ → Type 0
 IsLineAt t w = IsSlot t w × ((name : RowName) × ((slot_at t w).owner ≡ LineSlot name))
 
--- there are not too many slots, and those of nothing have no row
+-- how many slots past those of the levels are of something: two for an attribute and its stay, one for a row
+abbrev pub taken_slots : Lists → ℕ
+taken_slots t = 2 * length t.stays + length t.rows
+
+-- past those of the levels there are at most twice as many slots as are of something, and some more
+abbrev pub HasSlotsLeft : Lists → Type 0
+HasSlotsLeft t = length t.slots ≤ LEVELS + 2 * taken_slots t + SPARE_SLOTS
+
+-- there are not too many slots, whatever came and left, and those of nothing have no row
 pub record AreStored (t : Lists) : Type 0 where
-  pub few : length t.slots < 2 ^ 32
+  pub few : length t.slots ≤ MOST_SLOTS
   pub empty : (w : ℕ) → LEVELS ≤ w → (slot_at t w).owner ≡ LevelSlot → row_at t w ≡ []
 
 -- the slot's row is the cost of a level

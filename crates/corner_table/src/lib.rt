@@ -3,9 +3,10 @@
 //! A [`Table`] has a problem's rows and stays, and a slot for each attribute, line and priority level: a row
 //! and a column of one sparse matrix of whole numbers. [`new_table`] is that of no row and no stay. What a
 //! quantity is worth is the value in its slot ([`value_at`]); a line's slot says which of its marks is inside
-//! ([`side_at`]), and [`marks_with`] names all of these. Each list has as many earlier versions: [`mark`],
-//! [`back`], [`forget`] and [`rewind`] keep them alike. [`moved_attrs`] lists the attributes whose values are others
-//! than at the newest mark.
+//! ([`side_at`]), and [`marks_with`] names all of these. A slot whose attribute or line left is of nothing, and
+//! there are never more than [`MOST_SLOTS`] slots: [`is_crowded`] tells when those of nothing have to go. Each
+//! list has as many earlier versions: [`mark`], [`back`], [`forget`] and [`rewind`] keep them alike.
+//! [`moved_attrs`] lists the attributes whose values are others than at the newest mark.
 //!
 //! ```
 //! let mut table = new_table(alloc)?;            // the slots of the priority levels, and nothing else
@@ -41,11 +42,11 @@ pub use marking::{list_row, marks_with, path_stop};
 pub use moved::moved_attrs;
 pub use slots::{
     attr_slot, cost_share, costs, is_level, is_stay, level_of, level_slot, line_slot, name_at,
-    other, own_of, own_of_level, priority_at, priority_level, put_number, share, side_at, side_in,
-    sign, slot_at, unit_of, value_at, what_at, what_slot,
+    other, own_of, own_of_level, priority_at, priority_level, share, side_at, side_in, sign,
+    slot_at, unit_of, value_at, what_at, what_slot,
 };
 pub use sums::{product, sum};
 pub use table::{
-    LEVELS, OWN_RANK, Owner, Priority, Slot, Standing, Table, back, forget, mark, new_table,
-    next_slot, push_slot, rewind,
+    LEVELS, MOST_SLOTS, OWN_RANK, Owner, Priority, SPARE_SLOTS, Slot, Standing, Table, back,
+    forget, is_crowded, mark, new_table, next_slot, push_slot, rewind,
 };

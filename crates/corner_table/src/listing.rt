@@ -1,6 +1,6 @@
 // The lines that may have a negative column.
 ghost use Rattle.std.specs.Prelude.{◌≡◌, ◌<◌, ℕ, [], length, Contains, IfSome, IfNone, OnOk, slice_get};
-ghost use Rattle.std.specs.Prelude.{slice_index_or, true};
+ghost use Rattle.std.specs.Prelude.{slice_index_or, true, map, All};
 ghost use Rattle.corner_table.specs.Reads.Listing.{HasLeft, IsListed, IsWithout};
 
 use frac_core::OutOfMemory;
@@ -103,6 +103,25 @@ impl Listed {
         while let Some(i) = self.place_of(line) {
             self.remove(i);
         }
+    }
+
+    /// Gives each listed line another slot.
+    pub fn rename(&mut self, places: &[u32], alloc: Global) -> Result<(), OutOfMemory>
+        requires { All (λ w. w < length places.now) self.old }
+        ensures { OnOk result (self.new ≡ map (λ w. slice_index_or places.now w 0) self.old) }
+    {
+        let mut lines = Vec::with_capacity(alloc, self.lines.len())?;
+        let mut flags = Vec::new(alloc);
+        for line in self.lines.as_slice() {
+            let place = places[*line as usize];
+            while flags.len() <= place as usize {
+                flags.push(false)?;
+            }
+            flags[place as usize] = true;
+            lines.push(place)?;
+        }
+        *self = Listed { lines, flags };
+        Ok(())
     }
 
     /// Takes all lines off.

@@ -26,7 +26,7 @@ fn value_now(table: &Table, attr: u32) -> Option<Frac>
     requires { AreSlots (lists_of table.now) }
     ensures { Shows HasValue (lists_of table.now) attr result }
 {
-    let w = *table.attr_slots.as_slice().get(attr as usize)?;
+    let w = table.attr_slots.slot(attr);
     let slot = table.slots.as_slice().get(w as usize)?;
     if !is_attr(slot, attr) {
         return None;
@@ -42,7 +42,7 @@ fn value_before(table: &Table, attr: u32) -> Option<Frac>
     requires slots { AreSlots (marked_of table.now) }
     ensures { Shows HasValue (marked_of table.now) attr result }
 {
-    let w = *table.attr_slots.was(attr as usize)?;
+    let w = table.attr_slots.was(attr);
     let slot = table.slots.was(w as usize)?;
     if !is_attr(slot, attr) {
         return None;

@@ -1,6 +1,6 @@
 // The slots of lines, attributes and levels.
 ghost use Rattle.std.specs.Prelude.{◌≡◌, ◌<◌, ◌≤◌, ◌-◌, ◌*◌, ◌↔◌};
-ghost use Rattle.std.specs.Prelude.{ℕ, pos, cond, length, slice_index_or, true, Some, OnOk};
+ghost use Rattle.std.specs.Prelude.{ℕ, pos, cond, length, true, Some};
 ghost use Rattle.frac_core.specs.Fraction.{IsFitting};
 ghost use Rattle.problem_core.specs.Layout.{HasStay};
 ghost use Rattle.problem_core.specs.declared.limits.TheConstants.{REQUIRED};
@@ -15,24 +15,14 @@ ghost use Rattle.corner_table.specs.Tables as tables;
 ghost use Rattle.corner_table.specs.Tables.{IsSign, entry, lists_of, problem_of};
 ghost use Rattle.corner_table.specs.Invariants as invariants;
 ghost use Rattle.corner_table.specs.Kept.{AreSlots, HasCost, IsHeld, IsStayOwner, level_own};
-ghost use Rattle.corner_table.specs.Joining.{IsNumbered};
 ghost use Rattle.corner_table.specs.Views.{IsLevelOf, IsNamed};
 ghost use Rattle.corner_table.specs.Reads.LevelNumbers.{IsCounted, count_of, share_of, side_share, unit_at};
 ghost use Rattle.corner_laws.specs.Runs.{other_side};
 ghost use Rattle.corner_lines.specs.LineEquations.{sign_of};
 
-use crate::table::{ABSENT, LEVELS, Owner, Priority, Slot, Table};
-use frac_core::{Frac, OutOfMemory};
+use crate::table::{LEVELS, Owner, Priority, Slot, Table};
+use frac_core::Frac;
 use problem_core::{Level, Mark, REQUIRED, Rel, RowName, Side, What};
-use version_list::VersionList;
-
-/// The slot under a number.
-pub(crate) fn slot_under(slots: &VersionList<u32>, number: u32) -> u32
-    requires { number < length slots.now.items }
-    ensures { result ≡ slice_index_or slots.now.items number 0 }
-{
-    *slots.get(number as usize)
-}
 
 /// The slot of an attribute.
 pub fn attr_slot(table: &Table, attr: u32) -> u32
@@ -42,7 +32,7 @@ pub fn attr_slot(table: &Table, attr: u32) -> u32
     ensures above { LEVELS ≤ result }
     ensures within { result < length table.now.slots.items }
 {
-    slot_under(&table.attr_slots, attr)
+    table.attr_slots.slot(attr)
 }
 
 /// The slot of a line; a stay's comes behind that of its attribute.
@@ -54,7 +44,7 @@ pub fn line_slot(table: &Table, row: RowName) -> u32
     ensures within { result < length table.now.slots.items }
 {
     match row {
-        RowName::Held(id) => slot_under(&table.row_slots, id),
+        RowName::Held(id) => table.row_slots.slot(id),
         RowName::Stay(attr) => attr_slot(table, attr) + 1,
     }
 }
@@ -278,17 +268,6 @@ pub fn cost_share(table: &Table, slot: Slot, side: Side) -> i64
     } else {
         0
     }
-}
-
-/// Puts the slot under a number, with nothing under the numbers that are skipped.
-pub fn put_number(slots: &mut VersionList<u32>, number: u32, slot: u32) -> Result<(), OutOfMemory>
-    ensures before { slots.new.before ≡ slots.old.before }
-    ensures numbered { OnOk result (IsNumbered number slot slots.old.items slots.new.items) }
-{
-    while slots.len() <= number as usize {
-        slots.push(ABSENT)?;
-    }
-    slots.put(number as usize, slot)
 }
 
 /// The name of a slot's line, of an attribute's slot that of its stay, and of all else that of row 0.

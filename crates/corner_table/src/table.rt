@@ -1,15 +1,18 @@
 // The lists that a corner is kept in.
-ghost use Rattle.std.specs.Prelude.{◌≡◌, ◌<◌, ◌-◌, ◌+◌, ◌^◌, [], ◌∷◌, List, length, take, IfOk, OnOk};
+ghost use Rattle.std.specs.Prelude.{◌≡◌, ◌<◌, ◌≤◌, ◌-◌, ◌+◌, ◌^◌, [], ◌∷◌, List, false, length, take};
+ghost use Rattle.std.specs.Prelude.{IfOk, OnOk};
 ghost use Rattle.indexed_rows.specs.Matrices.{IsBelow};
 ghost use Rattle.version_list.specs.declared.TheConstants.{VERSION_LIMIT};
 ghost use Rattle.corner_table.specs.Tables.{Lists, lists_of};
 ghost use Rattle.corner_table.specs.Histories.{AreAlike, HasSameHistory, lists_before};
-ghost use Rattle.corner_table.specs.Kept.{IsKept};
+ghost use Rattle.problem_core.specs.declared.limits.TheConstants.{ROW_LIMIT};
+ghost use Rattle.corner_table.specs.Kept.{HasSlotsLeft, IsKept};
 ghost use Rattle.corner_table.specs.Joining.{HasNoPast, with_level, with_slot};
 
 use frac_core::{Frac, OutOfMemory};
 use indexed_rows::IndexedRows;
-use problem_core::{FIRST_STAY_LEVEL, Rel, Row, RowName, Side, Stay};
+use number_slots::NumberSlots;
+use problem_core::{FIRST_STAY_LEVEL, ROW_LIMIT, Rel, Row, RowName, Side, Stay};
 use row_core::IntRow;
 use std::alloc::Global;
 use version_list::VersionList;
@@ -22,14 +25,14 @@ pub const LEVELS: u32 = FIRST_STAY_LEVEL;
 /// below it.
 pub const OWN_RANK: u64 = 1 << 32;
 
-/// The slot of a number that has none.
-pub(crate) const ABSENT: u32 = 0;
-
 // For so many slots there is memory from the start: those of the levels, and as many others.
 const FIRST_ROOM: usize = 2 * LEVELS as usize;
 
-// More slots than these are want of memory.
-const MOST_SLOTS: usize = 1 << 31;
+/// So many slots of nothing there may be besides as many as there are of something.
+pub const SPARE_SLOTS: u32 = 64;
+
+/// The most slots that there are at a time.
+pub const MOST_SLOTS: u32 = LEVELS + 2 * 3 * ROW_LIMIT as u32 + SPARE_SLOTS;
 
 /// What a slot is of. `Level` past those of the levels is of nothing: what it was of was taken out.
 #[derive(Clone, Copy, Debug, PartialEq, Eq)]
@@ -75,8 +78,8 @@ pub struct Table {
     pub slots: VersionList<Slot>,
     pub standings: VersionList<Standing>,
     pub matrix: IndexedRows,
-    pub attr_slots: VersionList<u32>,
-    pub row_slots: VersionList<u32>,
+    pub attr_slots: NumberSlots,
+    pub row_slots: NumberSlots,
     pub priorities: VersionList<Priority>,
     pub alloc: Global,
 }
@@ -95,8 +98,8 @@ pub fn new_table(alloc: Global) -> Result<Table, OutOfMemory>
         slots: VersionList::with_room(alloc, FIRST_ROOM)?,
         standings: VersionList::with_room(alloc, FIRST_ROOM)?,
         matrix: IndexedRows::with_room(alloc, FIRST_ROOM)?,
-        attr_slots: VersionList::new(alloc)?,
-        row_slots: VersionList::new(alloc)?,
+        attr_slots: NumberSlots::new(alloc)?,
+        row_slots: NumberSlots::new(alloc)?,
         priorities: VersionList::with_room(alloc, LEVELS as usize)?,
         alloc,
     };
@@ -144,16 +147,22 @@ pub fn push_slot(
     table.matrix.push(row)
 }
 
-/// The number of the next slot, unless there are too many.
-pub fn next_slot(table: &Table) -> Result<u32, OutOfMemory>
-    ensures next { IfOk result (λ at. at ≡ length table.now.slots.items) }
-    ensures room { IfOk result (λ at. at + 2 < 2 ^ 32) }
+/// The number of the next slot.
+pub fn next_slot(table: &Table) -> u32
+    requires { length table.now.slots.items ≤ MOST_SLOTS }
+    ensures { result ≡ length table.now.slots.items }
 {
-    let at = table.slots.len();
-    if at >= MOST_SLOTS {
-        return Err(OutOfMemory);
-    }
-    Ok(at as u32)
+    table.slots.len() as u32
+}
+
+/// Whether there may be one slot more only once those of nothing are gone.
+pub fn is_crowded(table: &Table) -> bool
+    requires stays { length table.now.stays.items ≤ ROW_LIMIT }
+    requires rows { length table.now.rows.items ≤ ROW_LIMIT }
+    ensures { result ≡ false → HasSlotsLeft (lists_of table.now) }
+{
+    let taken = 2 * table.stays.len() + table.rows.len();
+    table.slots.len() > LEVELS as usize + 2 * taken + SPARE_SLOTS as usize
 }
 
 /// Makes the lists of now their newest earlier versions.

@@ -34,7 +34,7 @@ use Rattle.corner_table.specs.declared.table.Owner.{Owner}
 use Rattle.corner_table.specs.declared.table.Owner.TheVariants.{Level as LevelSlot, Attr as AttrSlot, Line as LineSlot}
 use Rattle.corner_table.specs.declared.table.Slot.{Slot}
 use Rattle.corner_table.specs.declared.table.Standing.{Standing}
-use Rattle.corner_table.specs.declared.table.TheConstants.{LEVELS}
+use Rattle.corner_table.specs.declared.table.TheConstants.{LEVELS, MOST_SLOTS}
 use Rattle.corner.specs.Removals.Dropping.{dropped_attr, no_slot}
 use Rattle.corner_table.specs.Kept.{AreOutside, AreSlots, AreStored, HasStayRoom, IsAttrRow, IsAttrSlot, IsEquationAt, IsKept, IsLevelKept, IsLineRow, IsLineSlot, IsOwned, IsSlot, home_of}
 use Rattle.corner_writings.specs.Rows.{row_number}
@@ -413,7 +413,7 @@ attr-slots t attr d =
 
 attr-stored : (t : Lists) (attr : ℕ) → IsAttrDrop t attr → AreStored (dropped_attr t attr)
 attr-stored t attr d = record {
-  few = subst (λ (k : ℕ). k < 2 ^ 32) (sym (count t attr)) d.kept.stored.few;
+  few = subst (λ (k : ℕ). k ≤ MOST_SLOTS) (sym (count t attr)) d.kept.stored.few;
   empty = λ c up free. empty-at c (where-is t attr c d) up free;
 }
   where

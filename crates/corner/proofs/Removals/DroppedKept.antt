@@ -1,5 +1,5 @@
 -- What the lists keep where a row is taken out.
-use Rattle.std.proofs.Common.{◌≡◌, ◌≢◌, ◌∙◌, ◌⊎◌, ℕ, zero, suc, ◌-◌, ◌*◌, ◌^◌, ◌<◌, ◌≤◌, ◌++◌, Bool, true, false, cond, nat_eq, List, [], ◌∷◌, map, length, length-set, slice_set, refl, sym, ap, ap₂, subst, arith, inl, inr, ℤ, pos, ◌*ℤ◌, ◌+ℤ◌, ◌-ℤ◌, neg_ℤ, ne_eqb, slice_index_or, All, AllPairs, Any, Some, None}
+use Rattle.std.proofs.Common.{◌≡◌, ◌≢◌, ◌∙◌, ◌⊎◌, ℕ, zero, suc, ◌-◌, ◌*◌, ◌<◌, ◌≤◌, ◌++◌, Bool, true, false, cond, nat_eq, List, [], ◌∷◌, map, length, length-set, slice_set, refl, sym, ap, ap₂, subst, arith, inl, inr, ℤ, pos, ◌*ℤ◌, ◌+ℤ◌, ◌-ℤ◌, neg_ℤ, ne_eqb, slice_index_or, All, AllPairs, Any, Some, None}
 use Rattle.std.specs.declared.option.Option.{Option}
 use Rattle.std.specs.List.{AllByRecursion as Each, filter}
 use Rattle.std.proofs.lemmas.Bool.{cases_eq, cases_lt}
@@ -35,7 +35,7 @@ use Rattle.corner_table.specs.declared.table.Owner.TheVariants.{Level as LevelSl
 use Rattle.corner_table.specs.declared.table.Priority.{Priority}
 use Rattle.corner_table.specs.declared.table.Slot.{Slot}
 use Rattle.corner_table.specs.declared.table.Standing.{Standing}
-use Rattle.corner_table.specs.declared.table.TheConstants.{LEVELS}
+use Rattle.corner_table.specs.declared.table.TheConstants.{LEVELS, MOST_SLOTS}
 use Rattle.corner.specs.Removals.Dropping.{dropped, no_slot}
 use Rattle.corner_exchange.specs.Swaps.Exchanges.{IsOutsideSlot}
 use Rattle.corner_writings.specs.Rows.{row_number}
@@ -364,7 +364,7 @@ drop-slots t leaver left d =
 
 drop-stored : (t : Lists) (leaver : Leaver) (left : Left) → IsDrop t leaver left → AreStored (dropped t leaver left)
 drop-stored t leaver left d = record {
-  few = subst (λ (k : ℕ). k < 2 ^ 32) (sym (drop-slot-count t leaver left)) d.going.kept.stored.few;
+  few = subst (λ (k : ℕ). k ≤ MOST_SLOTS) (sym (drop-slot-count t leaver left)) d.going.kept.stored.few;
   empty = λ w up free. elim (cases_eq w leaver.line) [
     | inl e ↦ ap (row_at (dropped t leaver left)) e ∙ drop_row_gone t leaver left d
     | inr ne ↦ drop_row_same t leaver left w d ne (high w leaver.level up d.going.low)

@@ -15,7 +15,7 @@ use Rattle.corner_table.specs.Kept.{AreSlots, IsKept, IsSlot}
 use Rattle.corner_table.specs.Histories.{HasSameHistory}
 use Rattle.corner_table.specs.Invariants.{IsConsistent, IsEarlier, names_of, view_of}
 use Rattle.corner.specs.Shifts.Stood.{AreFirstStood, IsAtRest, IsStoodAt, stay_slot, with_moved, with_present}
-use Rattle.corner.proofs.Attributes.CornerAttrs.{alike_same, past_same}
+use Rattle.corner_packing.proofs.PastFacts.{alike_same, past_same}
 use Rattle.corner.proofs.Stays.StoodColumns.{negative_seen}
 use Rattle.corner.proofs.Stays.StoodKept.{attr_same, first_slots, have_stood, named_after, seen_alike, stood_kept, stood_marks}
 use Rattle.corner_lines.specs.Shifts.{AreSeenAlike}

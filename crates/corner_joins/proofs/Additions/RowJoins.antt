@@ -1,5 +1,5 @@
 -- All that the lists keep where a row has been pushed.
-use Rattle.std.proofs.Common.{◌≡◌, ◌∙◌, ℕ, zero, suc, ◌+◌, ◌^◌, ◌≤◌, length, ◌<◌, ◌++◌, List, [], ◌∷◌, refl, sym, ap, subst, arith, inl, inr, ℤ, pos, negsuc, ◌*ℤ◌, ◌<ℤ◌, ◌≤ℤ◌, slice_index_or, All, Some, None}
+use Rattle.std.proofs.Common.{◌≡◌, ◌∙◌, ℕ, zero, suc, ◌+◌, ◌≤◌, length, ◌<◌, ◌++◌, List, [], ◌∷◌, refl, sym, ap, subst, arith, inl, inr, ℤ, pos, negsuc, ◌*ℤ◌, ◌<ℤ◌, ◌≤ℤ◌, slice_index_or, All, Some, None}
 use Rattle.std.proofs.lemmas.List.Elements.{All-cons, All-push}
 use lib.IntN.{*ℤ_comm}
 use borrow.Author.Differences.{ints}
@@ -23,6 +23,7 @@ use Rattle.corner_lines.proofs.Lines.LineWritings.{mark_value}
 use Rattle.corner_joins.specs.declared.joining.Sum.{Sum}
 use Rattle.corner_table.specs.declared.table.Slot.{Slot}
 use Rattle.corner_table.specs.declared.table.Standing.{Standing}
+use Rattle.corner_table.specs.declared.table.TheConstants.{MOST_SLOTS}
 use Rattle.corner_table.specs.Tables.{Lists, line_slot, marks_at, problem_of, standing_at}
 use Rattle.corner_table.specs.Kept.{AreStored, HasStayRoom, IsLineRow}
 use Rattle.corner_table.specs.Tables.{slot_at}
@@ -50,7 +51,7 @@ room_pushed t r v o a s j has room =
     let slot = named_slot t (StayOf s.attr) j.kept.slots (stay_named (problem_of t) s.attr has) in
     subst (λ (z : ℤ). IsFitting (pos 2 *ℤ z)) (sym (ap (coefficient (line_slot t (StayOf s.attr))) (old_row t r v o a (line_slot t (StayOf s.attr)) j.kept.slots slot.1))) room
 
-stored_pushed : (t : Lists) (r : Row) (v : Standing) (o : List Term) (a : List ℕ) → IsPush t r a → length t.slots + 2 < 2 ^ 32 → AreStored (with_pushed r v o a t)
+stored_pushed : (t : Lists) (r : Row) (v : Standing) (o : List Term) (a : List ℕ) → IsPush t r a → length t.slots < MOST_SLOTS → AreStored (with_pushed r v o a t)
 stored_pushed t r v o a j room =
     let n = length_push t.slots (slot_of_row r) in
     record {
@@ -67,7 +68,7 @@ stored_pushed t r v o a j room =
     same : (w n : ℕ) → n ≤ w → w ≤ n → w ≡ n
     same w n le ge = omega (arith, le, ge)
 
-pub kept_pushed : (t : Lists) (r : Row) (v : Standing) (o : List Term) (a : List ℕ) (s : Side) (sum : Sum) → IsPush t r a → length t.slots + 2 < 2 ^ 32 → IsSideOf sum.value v s → o ≡ sum.row → IsSumRow t r (deviation (Held r.id)) sum → IsKeptRow o → fractions.IsKept v.value → IsPartlyKept (with_pushed r v o a t)
+pub kept_pushed : (t : Lists) (r : Row) (v : Standing) (o : List Term) (a : List ℕ) (s : Side) (sum : Sum) → IsPush t r a → length t.slots < MOST_SLOTS → IsSideOf sum.value v s → o ≡ sum.row → IsSumRow t r (deviation (Held r.id)) sum → IsKeptRow o → fractions.IsKept v.value → IsPartlyKept (with_pushed r v o a t)
 kept_pushed t r v o a s sum j few is own h row value = record {
   whole = j.whole;
   corner = corner_pushed t r v o a s j is.side;

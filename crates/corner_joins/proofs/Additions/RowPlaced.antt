@@ -1,5 +1,5 @@
 -- A row is put in the next slot.
-use Rattle.std.proofs.Common.{◌≡◌, ◌≢◌, ◌∙◌, ℕ, ◌+◌, ◌^◌, ◌<◌, ◌++◌, cond, nat_eq, Bool, true, false, List, [], ◌∷◌, length, refl, sym, ap, ap₂, subst, arith, ℤ, pos, negsuc, ◌+ℤ◌, ◌*ℤ◌}
+use Rattle.std.proofs.Common.{◌≡◌, ◌≢◌, ◌∙◌, ℕ, ◌+◌, ◌<◌, ◌++◌, cond, nat_eq, Bool, true, false, List, [], ◌∷◌, length, refl, sym, ap, ap₂, subst, arith, ℤ, pos, negsuc, ◌+ℤ◌, ◌*ℤ◌}
 use Rattle.std.proofs.lemmas.List.Elements.{All-cons, All-nil}
 use Rattle.std.proofs.lemmas.List.Kept.{AllPairs-cons}
 use Rattle.std.proofs.Math.Nat.{eq-one_of_dvd-one}
@@ -10,18 +10,20 @@ use Rattle.problem_core.specs.Layout.{Row}
 use Rattle.corner_joins.specs.declared.joining.Sum.{Sum}
 use Rattle.corner_table.specs.declared.table.Slot.{Slot}
 use Rattle.corner_table.specs.declared.table.Standing.{Standing}
+use Rattle.corner_table.specs.declared.table.TheConstants.{MOST_SLOTS}
 use Rattle.corner_table.specs.Tables.{Lists}
-use Rattle.corner_table.specs.Joining.{IsNumbered, slot_of_row, with_slot}
+use Rattle.number_slots.specs.Numbers.{IsNumbered}
+use Rattle.corner_table.specs.Joining.{slot_of_row, with_slot}
 use Rattle.corner_joins.specs.Additions.RowJoins.{IsPlaced, IsStandingOf}
 
-pub placed : (r : Row) (sum : Sum) (t u : Lists) (slot : Slot) (st : Standing) (id at : ℕ) (copy : Row) (a : List ℕ) (rows : List Row) → at + 2 < 2 ^ 32
+pub placed : (r : Row) (sum : Sum) (t u : Lists) (slot : Slot) (st : Standing) (id at : ℕ) (copy : Row) (a : List ℕ) (rows : List Row) → length t.slots < MOST_SLOTS
     → u ≡ with_slot slot (record { side = st.side; value = st.value }) sum.row t → slot ≡ slot_of_row r → IsStandingOf sum.value st → IsNumbered id at u.row_slots a → id ≡ r.id → at ≡ length t.slots → copy ≡ r → rows ≡ u.rows ++ (copy ∷ [])
     → IsPlaced r sum t (record { rows = rows; stays = u.stays; slots = u.slots; standings = u.standings; matrix = u.matrix; attr_slots = u.attr_slots; row_slots = a; priorities = u.priorities })
 placed r sum t u slot st id at copy a rows few e s h n i k c more = (
   record {
     standing = record { side = st.side; value = st.value };
     own = sum.row;
-    room = omega (arith, few, k);
+    room = few;
     rows = more ∙ ap₂ (λ (x : List Row) (y : Row). x ++ (y ∷ [])) (ap (λ (l : Lists). l.rows) e) c;
     stays = ap (λ (l : Lists). l.stays) e;
     slots = ap (λ (l : Lists). l.slots) e ∙ ap (λ (x : Slot). t.slots ++ (x ∷ [])) s;

@@ -27,7 +27,8 @@ use Rattle.corner_table.specs.Views.{IsNamed}
 use Rattle.corner_table.specs.Tables.{Lists, attr_slot, is_side, line_slot, marks_at, problem_of, row_at, slot_at, standing_at, stands_in, stay_rank}
 use Rattle.corner_table.specs.Kept.{AreSlots, IsAttrSlot, IsLineSlot, IsOwned}
 use Rattle.corner_joins.specs.Additions.Parts.{IsPartlyKept}
-use Rattle.corner_table.specs.Joining.{IsNumbered, slot_of_row}
+use Rattle.number_slots.specs.Numbers.{IsNumbered}
+use Rattle.corner_table.specs.Joining.{slot_of_row}
 use Rattle.corner_joins.specs.Additions.RowSums.{with_pushed}
 use Rattle.corner_joins.proofs.Attributes.AttrJoins.{home_same}
 use Rattle.corner_exchange.proofs.Basics.SmallFacts.{own_name, own_stay}

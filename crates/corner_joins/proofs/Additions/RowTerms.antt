@@ -41,7 +41,8 @@ use Rattle.corner_table.specs.Views.{IsNamed}
 use Rattle.corner_table.specs.Tables.{Lists, attr_slot, entry, line_slot, marks_at, number, problem_of, row_at, standing_at}
 use Rattle.corner_table.specs.Kept.{AreSlots, IsAttrRow, IsAttrSlot}
 use Rattle.corner_joins.specs.Additions.Parts.{IsPartlyKept, IsTermsStop}
-use Rattle.corner_table.specs.Joining.{IsNumbered, at_zero}
+use Rattle.number_slots.specs.Numbers.{IsNumbered}
+use Rattle.corner_table.specs.Joining.{at_zero}
 use Rattle.corner_exchange.specs.Swaps.Exchanges.{IsOutsideSlot}
 use Rattle.corner_writings.specs.Rows.{row_number}
 use Rattle.corner_joins.specs.Additions.RowSums.{AreTermFactors, HasTermFactors, IsSumRow, IsTermRow, IsTermValue, IsUnfitTerm, term_number, term_of, with_pushed}

@@ -26,11 +26,12 @@ use Rattle.corner_table.specs.declared.table.Owner.{Owner}
 use Rattle.corner_table.specs.declared.table.Owner.TheVariants.{Level as LevelSlot, Attr as AttrSlot, Line as LineSlot}
 use Rattle.corner_table.specs.declared.table.Slot.{Slot}
 use Rattle.corner_table.specs.declared.table.Standing.{Standing}
-use Rattle.corner_table.specs.declared.table.TheConstants.{LEVELS, OWN_RANK}
+use Rattle.corner_table.specs.declared.table.TheConstants.{LEVELS, MOST_SLOTS, OWN_RANK}
 use Rattle.corner_table.specs.Views.{IsNamed}
 use Rattle.corner_table.specs.Tables.{Lists, attr_slot, entry, is_side, line_slot, marks_at, number, problem_of, row_at, slot_at, standing_at, stands_in, stay_rank}
 use Rattle.corner_table.specs.Kept.{AreOutside, AreSlots, IsAttrRow, IsAttrSlot, IsEquationAt, IsKept, IsLineRow, IsLineSlot, IsOwned, IsSlot, home_of}
-use Rattle.corner_table.specs.Joining.{IsNumbered, IsStayForm, at_value, at_zero, slot_of_attr, slot_of_stay}
+use Rattle.number_slots.specs.Numbers.{IsNumbered}
+use Rattle.corner_table.specs.Joining.{IsStayForm, at_value, at_zero, slot_of_attr, slot_of_stay}
 use Rattle.corner_table.proofs.Readings.SlotFacts.{named_slot, named_stay}
 use Rattle.corner_table.proofs.Corners.NewTables.{less_or}
 use Rattle.corner_table.proofs.Corners.SlotRanks.{last_pushed, ranks_pushed}
@@ -78,7 +79,7 @@ pub record IsJoin (t : Lists) (attr : ℕ) (target : Fraction) (m : List (List T
   pub value : IsKeptFraction target
   pub fresh : HasStay t.stays attr → ⊥
   pub few : length t.stays < 4096
-  pub room : length t.slots + 2 < 2 ^ 32
+  pub room : length t.slots + 2 ≤ MOST_SLOTS
   pub count : length m ≡ length t.matrix + 2
   pub own : IsStayForm (length t.slots) (slice_index_or m (length t.slots) [])
   pub own_kept : IsKeptRow (slice_index_or m (length t.slots) [])

@@ -22,7 +22,8 @@ use Rattle.corner_lines.specs.LineEquations.{IsOutsideLine}
 use Rattle.corner_table.specs.declared.table.TheConstants.{LEVELS}
 use Rattle.corner_table.specs.Tables.{Lists, line_slot, marks_at, number, priority_at, problem_of, row_at}
 use Rattle.corner_table.specs.Tables.{standing_at}
-use Rattle.corner_table.specs.Kept.{AreOutside, AreSlots, AreStored, HasStayRoom, IsAttrRow, IsLineRow}
+use Rattle.corner_table.specs.Kept.{AreOutside, AreSlots, AreStored, HasSlotsLeft, HasStayRoom, IsAttrRow}
+use Rattle.corner_table.specs.Kept.{IsLineRow}
 use Rattle.corner_table.specs.Kept.{level_own}
 use Rattle.corner_table.specs.Kept.{row_count}
 
@@ -71,9 +72,10 @@ pub record IsPartlyKept (t : Lists) : Type 0 where
 
 -- ---- a row joins the corner
 
--- lists that keep all but their levels, and the problem with the row is whole
+-- lists that keep all but their levels, with slots left, and the problem with the row is whole
 pub record CanTakeRow (t : Lists) (r : Row) : Type 0 where
   pub kept : IsPartlyKept t
+  pub left : HasSlotsLeft t
   pub whole : IsWhole (with_row r (problem_of t))
 
 -- the lists have the row too, with its mark that is not negative, and no level has changed

@@ -1,5 +1,5 @@
 -- How rows join the lists of a corner as lines.
-use Rattle.std.specs.Prelude.{◌≡◌, ◌⊎◌, ℕ, ◌+◌, ◌^◌, ◌<◌, List, [], ◌∷◌, ◌++◌, length, map, pos, ◌<ℤ◌}
+use Rattle.std.specs.Prelude.{◌≡◌, ◌⊎◌, ℕ, ◌<◌, List, [], ◌∷◌, ◌++◌, length, map, pos, ◌<ℤ◌}
 use Rattle.std.specs.Prelude.{◌≤ℤ◌, Some}
 use Rattle.frac_core.specs.Fraction.{Fraction}
 use Rattle.row_core.specs.Rows.{Term}
@@ -10,8 +10,10 @@ use Rattle.problem_core.specs.Layout.{Row}
 use Rattle.problem_core.specs.declared.parts.Side.TheVariants.{Under, Over}
 use Rattle.corner_joins.specs.declared.joining.Sum.{Sum}
 use Rattle.corner_table.specs.declared.table.Standing.{Standing}
+use Rattle.corner_table.specs.declared.table.TheConstants.{MOST_SLOTS}
 use Rattle.corner_table.specs.Tables.{Lists, line_slot, problem_of, row_at, standing_at}
-use Rattle.corner_table.specs.Joining.{IsNumbered, slot_of_row}
+use Rattle.number_slots.specs.Numbers.{IsNumbered}
+use Rattle.corner_table.specs.Joining.{slot_of_row}
 use Rattle.corner_exchange.specs.Swaps.Exchanges.{opposite}
 use Rattle.corner_table.specs.Views.{IsNamed}
 
@@ -19,7 +21,7 @@ use Rattle.corner_table.specs.Views.{IsNamed}
 pub record IsPushed (r : Row) (old new : Lists) : Type 0 where
   pub standing : Standing
   pub own : List Term
-  pub room : length old.slots + 2 < 2 ^ 32
+  pub room : length old.slots < MOST_SLOTS
   pub rows : new.rows ≡ old.rows ++ (r ∷ [])
   pub stays : new.stays ≡ old.stays
   pub slots : new.slots ≡ old.slots ++ (slot_of_row r ∷ [])

@@ -1,13 +1,12 @@
 -- Which attributes have other values than at another time.
-use Rattle.std.proofs.Common.{◌≡◌, ◌≢◌, ◌⊎◌, ◌∙◌, ◌<◌, ◌≤◌, ℕ, ◌+◌, List, [], ◌∷◌, ◌++◌, length, take, get_or, All, pos, Some, None, refl, sym, ap, subst, arith, inl, inr}
+use Rattle.std.proofs.Common.{◌≡◌, ◌⊎◌, ◌∙◌, ◌<◌, ◌≤◌, ℕ, ◌+◌, List, [], ◌∷◌, ◌++◌, length, take, get_or, All, pos, Some, None, refl, sym, ap, subst, arith, inl, inr}
 use Rattle.std.specs.Prelude.{Contains, slice_get, slice_index_or}
 use Rattle.std.specs.declared.option.Option.{Option}
 use Rattle.std.specs.Option.{unwrap_or}
 use Rattle.std.proofs.lemmas.Bool.{cases_eq, cases_lt}
 use Rattle.std.proofs.lemmas.List.{take_more}
 use Rattle.std.proofs.lemmas.List.Elements.{All-push, Contains-append_left, Contains-push, Contains-push_cases}
-use Rattle.std.proofs.lemmas.Option.{get_or_from_slice_get, slice_get-get_or, slice_get_cases, slice_get_past, slice_get_within, unwrap_or-slice_get}
-use Rattle.frac_core.specs.Fraction.{Fraction}
+use Rattle.std.proofs.lemmas.Option.{get_or_from_slice_get, slice_get-get_or, slice_get_past, unwrap_or-slice_get}
 use Rattle.problem_core.specs.Layout.{HasStay}
 use Rattle.problem_core.specs.Window.{zero_fraction}
 use Rattle.problem_core.specs.declared.parts.Rel.TheVariants.{Eq}
@@ -23,7 +22,7 @@ use Rattle.problem_core.specs.declared.parts.Stay.{Stay}
 use Rattle.corner_table.specs.declared.table.TheConstants.{LEVELS}
 use Rattle.corner_table.specs.Tables.{Lists, attr_slot, slot_at, standing_at}
 use Rattle.corner_table.specs.Histories.{AreAlike, lists_before, side_by_side}
-use Rattle.corner_table.specs.Kept.{AreSlots, IsAttrSlot, IsOwned, IsSlot}
+use Rattle.corner_table.specs.Kept.{AreSlots, IsAttrSlot, IsOwned}
 use Rattle.corner_table.specs.Moves.{AreMoved, HasMoved, HasStayed, HasValue, IsListed, Keeps, Shows, marked_of}
 use Rattle.corner_table.proofs.Readings.SlotFacts.{any_is}
 
@@ -83,7 +82,7 @@ slot_of t attr slots has =
 -- ---- what is found of an attribute
 
 pub record IsFound (t : Lists) (attr w : ℕ) (slot : Slot) (s : Standing) : Type 0 where
-  pub at : slice_get t.attr_slots attr ≡ Some w
+  pub at : attr_slot t attr ≡ w
   pub there : slice_get t.slots w ≡ Some slot
   pub own : slot.owner ≡ AttrSlot attr
   pub stands : slice_get t.standings w ≡ Some s
@@ -92,31 +91,19 @@ pub value_shown :
     (t : Lists) (attr w : ℕ) (slot : Slot) (s : Standing) → AreSlots t → IsFound t attr w slot s
     → HasValue t attr s.value
 value_shown t attr w slot s slots found =
-    let at : attr_slot t attr ≡ w = get_or_from_slice_get t.attr_slots attr w 0 found.at in
     let own : (slot_at t w).owner ≡ AttrSlot attr =
     ap (λ (x : Slot). x.owner) (get_or_from_slice_get t.slots w slot empty-slot found.there) ∙ found.own in (
       (own_stay t attr w slots own).0,
-      ap (λ (v : ℕ). (standing_at t v).value) at
+      ap (λ (v : ℕ). (standing_at t v).value) found.at
           ∙ ap (λ (x : Standing). x.value) (get_or_from_slice_get t.standings w s empty-standing found.stands),
     )
-
-found-number :
-    (t : Lists) (attr : ℕ) → LEVELS ≤ attr_slot t attr → slice_get t.attr_slots attr ≡ Some (attr_slot t attr)
-found-number t attr above =
-    elim (slice_get_cases t.attr_slots attr).1 [
-      | inl here ↦ here.2 ∙ ap Some (sym (get_or_from_slice_get t.attr_slots attr here.0 0 here.2))
-      | inr past ↦
-          let none : attr_slot t attr ≡ 0 =
-          sym (unwrap_or-slice_get t.attr_slots attr 0) ∙ ap (λ (o : Option ℕ). unwrap_or o 0) past.1 in
-          absurd (omega (arith, above, none))
-    ]
 
 pub value_found :
     (t : Lists) (attr : ℕ) → AreSlots t → HasStay t.stays attr
     → IsFound t attr (attr_slot t attr) (slot_at t (attr_slot t attr)) (standing_at t (attr_slot t attr))
 value_found t attr slots has =
     let is = slot_of t attr slots has in record {
-      at = found-number t attr is.slot.0;
+      at = refl;
       there = slice_get-get_or t.slots (attr_slot t attr) empty-slot is.slot.1;
       own = is.owner;
       stands = slice_get-get_or t.standings (attr_slot t attr) empty-standing (omega (arith, is.slot.1, slots.standings));
@@ -128,43 +115,34 @@ none-some o x none some = cc
 same-some : {A : Type 0} (o : Option A) (x y : A) → o ≡ Some x → o ≡ Some y → x ≡ y
 same-some o x y a b = cc
 
--- without a number there is no value
-pub no_number :
-    (t : Lists) (attr : ℕ) → AreSlots t → slice_get t.attr_slots attr ≡ None → Shows HasValue t attr None
-no_number t attr slots none = λ f has.
-    none-some (slice_get t.attr_slots attr) (attr_slot t attr) none (value_found t attr slots has.0).at
-
--- without a slot there
+-- without a slot there is no value
 pub no_slot :
-    (t : Lists) (attr w : ℕ) → AreSlots t → slice_get t.attr_slots attr ≡ Some w → slice_get t.slots w ≡ None
+    (t : Lists) (attr w : ℕ) → AreSlots t → w ≡ attr_slot t attr → slice_get t.slots w ≡ None
     → Shows HasValue t attr None
-no_slot t attr w slots number none = λ f has.
+no_slot t attr w slots at none = λ f has.
     let found = value_found t attr slots has.0 in
-    let same : w ≡ attr_slot t attr = same-some (slice_get t.attr_slots attr) w (attr_slot t attr) number found.at in
     none-some (slice_get t.slots w) (slot_at t (attr_slot t attr)) none
-    (subst (λ (v : ℕ). slice_get t.slots v ≡ Some (slot_at t (attr_slot t attr))) (sym same) found.there)
+    (subst (λ (v : ℕ). slice_get t.slots v ≡ Some (slot_at t (attr_slot t attr))) (sym at) found.there)
 
 -- where the slot isn't the attribute's
 pub no_owner :
-    (t : Lists) (attr w : ℕ) (slot : Slot) → AreSlots t → slice_get t.attr_slots attr ≡ Some w
+    (t : Lists) (attr w : ℕ) (slot : Slot) → AreSlots t → w ≡ attr_slot t attr
     → slice_get t.slots w ≡ Some slot → (slot.owner ≡ AttrSlot attr → ⊥) → Shows HasValue t attr None
-no_owner t attr w slot slots number there other = λ f has.
+no_owner t attr w slot slots at there other = λ f has.
     let found = value_found t attr slots has.0 in
-    let same : w ≡ attr_slot t attr = same-some (slice_get t.attr_slots attr) w (attr_slot t attr) number found.at in
     let one : slot ≡ slot_at t (attr_slot t attr) =
     same-some (slice_get t.slots w) slot (slot_at t (attr_slot t attr)) there
-    (subst (λ (v : ℕ). slice_get t.slots v ≡ Some (slot_at t (attr_slot t attr))) (sym same) found.there) in
+    (subst (λ (v : ℕ). slice_get t.slots v ≡ Some (slot_at t (attr_slot t attr))) (sym at) found.there) in
     other (ap (λ (x : Slot). x.owner) one ∙ found.own)
 
 -- without a value there
 pub no_standing :
-    (t : Lists) (attr w : ℕ) → AreSlots t → slice_get t.attr_slots attr ≡ Some w → slice_get t.standings w ≡ None
+    (t : Lists) (attr w : ℕ) → AreSlots t → w ≡ attr_slot t attr → slice_get t.standings w ≡ None
     → Shows HasValue t attr None
-no_standing t attr w slots number none = λ f has.
+no_standing t attr w slots at none = λ f has.
     let found = value_found t attr slots has.0 in
-    let same : w ≡ attr_slot t attr = same-some (slice_get t.attr_slots attr) w (attr_slot t attr) number found.at in
     none-some (slice_get t.standings w) (standing_at t (attr_slot t attr)) none
-    (subst (λ (v : ℕ). slice_get t.standings v ≡ Some (standing_at t (attr_slot t attr))) (sym same) found.stands)
+    (subst (λ (v : ℕ). slice_get t.standings v ≡ Some (standing_at t (attr_slot t attr))) (sym at) found.stands)
 
 -- ---- what is listed
 

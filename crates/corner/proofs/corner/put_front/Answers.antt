@@ -1,5 +1,5 @@
 use Rattle.corner_table.specs.Tables.{lists_of}
-use Rattle.corner.proofs.Attributes.CornerAttrs.{alike_same, past_same}
+use Rattle.corner_packing.proofs.PastFacts.{alike_same, past_same}
 use Rattle.corner.proofs.Orders.FrontedConsistent.{fronted_consistent, fronted_marks, fronted_problem, on_both}
 use Rattle.corner_exchange.proofs.Basics.SmallFacts.{on_ok}
 use Rattle.corner.proofs.corner.put_front.Goals as goal

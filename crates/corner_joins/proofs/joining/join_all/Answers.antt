@@ -5,6 +5,7 @@ use Rattle.corner_table.specs.Tables.{lists_of}
 use Rattle.corner_joins.proofs.Additions.PartFacts.{kept_part}
 use Rattle.corner_joins.proofs.Additions.AddedRows.{costs_add_stop, pushed_to_join}
 use Rattle.corner_joins.proofs.Additions.AllFit.{all_sums_fit}
+use Rattle.corner_joins.proofs.Additions.SlotsLeft.{joined_left}
 use Rattle.corner_joins.proofs.joining.join_all.Goals as goal
 use Rattle.frac_core.proofs.Results.{err_implies as err_all}
 
@@ -35,3 +36,9 @@ returns-clause-fits c =
       costs = costs c.args.table.now.rows.items (pushed_to_join (lists_of c.args.table.now) (lists_of c.push_rows.new.table) c.args.rows.now c.requires.kept c.in_ok-push_rows.ensures.lists c.in_ok-push_rows.ensures.begins);
     }))
     c.join_costs.ensures.fits
+
+pub returns-clause-left : goal.returns-clause-left
+returns-clause-left c =
+    on_ok_weaker c.join_costs.result
+    (λ joined. joined_left (lists_of c.push_rows.new.table) (lists_of c.join_costs.new.table) c.args.rows.now c.args.listed.now c.join_costs.new.listed c.in_ok-push_rows.ensures.left joined)
+    c.join_costs.ensures.joined

@@ -6,6 +6,7 @@ use Rattle.corner_table.specs.Tables.{lists_of}
 use Rattle.corner_exchange.proofs.Basics.SmallFacts.{on_ok}
 use Rattle.corner_joins.proofs.Additions.RowPlaced.{placed}
 use Rattle.corner_joins.proofs.Additions.RowTerms.{sum_below}
+use Rattle.corner_joins.proofs.Additions.SlotsLeft.{row_room}
 use Rattle.corner_joins.proofs.joining.place_row.Goals as goal
 
 pub push_slot-requires-clause-columns : goal.push_slot-requires-clause-columns
@@ -16,6 +17,6 @@ push_slot-requires-clause-columns c =
 pub returns-clause-lists : goal.returns-clause-lists
 returns-clause-lists c =
     on_ok c.push.result _ _
-    (λ more. placed c.args.row.now c.args.sum (lists_of c.args.table.now) (lists_of c.push_slot.new.table) c.slot_of.result c.standing_of-standing.result c.id.result c.in_ok-at.at c.in_ok-copy_of.field-0 c.put_number.new.slots.items c.push.new.self.items
-    c.in_ok-at.ensures.room c.in_ok-push_slot.ensures.lists c.slot_of.ensures c.standing_of-standing.ensures c.in_ok-put_number.ensures.numbered c.id.ensures c.in_ok-at.ensures.next c.in_ok-copy_of.ensures more)
+    (λ more. placed c.args.row.now c.args.sum (lists_of c.args.table.now) (lists_of c.push_slot.new.table) c.slot_of.result c.standing_of-standing.result c.id.result c.next_slot-at.result c.in_ok-copy_of.field-0 c.put.new.self.items c.push.new.self.items
+    (row_room (lists_of c.args.table.now) c.args.row.now c.requires.row) c.in_ok-push_slot.ensures.lists c.slot_of.ensures c.standing_of-standing.ensures c.in_ok-put.ensures.numbered c.id.ensures c.next_slot-at.ensures c.in_ok-copy_of.ensures more)
     c.push.ensures.ok

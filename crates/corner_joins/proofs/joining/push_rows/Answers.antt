@@ -17,6 +17,7 @@ loop-i-init c = record {
   lists = none_pushed (lists_of c.args.table.now);
   begins = begins_none (problem_of (lists_of c.args.table.now)) (marks_at (lists_of c.args.table.now)) c.requires.kept.corner;
   kept = c.requires.kept;
+  left = c.requires.left;
   values = c.requires.values;
   fits = no_rows_fit (lists_of c.args.table.now) c.args.rows.now;
 }
@@ -26,6 +27,7 @@ push_row-requires c =
     record {
       row = record {
         kept = c.loop-i.invariant.kept;
+        left = c.loop-i.invariant.left;
         whole = loop_whole (lists_of c.args.table.now) (lists_of c.loop-i.table) c.args.rows.now c.loop-i.i c.index-rows-i.result c.loop-i.invariant.lists c.requires.whole c.loop-i-test.true
             (this_row c.args.rows.now c.loop-i.i c.index-rows-i.result c.loop-i-test.true c.index-rows-i.is);
       };
@@ -50,6 +52,7 @@ loop-i-preserved c =
       begins = subst (λ (more : List Row). BeginsWith (problem_of (lists_of c.push_row.new.table)) (marks_at (lists_of c.args.table.now)) more [] (marks_at (lists_of c.push_row.new.table))) next
           (begins_one (marks_at (lists_of c.args.table.now)) (take c.loop-i.i c.args.rows.now) (lists_of c.loop-i.table) (lists_of c.push_row.new.table) c.index-rows-i.result whole c.loop-i.invariant.kept.corner c.loop-i.invariant.begins c.in_default.ensures.joined);
       kept = c.in_default.ensures.kept;
+      left = c.in_default.ensures.left;
       values = values_one (lists_of c.loop-i.table) (lists_of c.push_row.new.table) c.index-rows-i.result whole c.loop-i.invariant.kept.corner c.loop-i.invariant.values c.in_default.ensures.joined;
       fits = next_rows_fit (lists_of c.args.table.now) (lists_of c.loop-i.table) c.args.rows.now c.loop-i.i c.index-rows-i.result
           (stopped (lists_of c.args.table.now) (lists_of c.loop-i.table) c.args.rows.now c.loop-i.i c.index-rows-i.result c.loop-i.invariant.lists c.requires.whole c.loop-i-test.true c.index-rows-i.is c.loop-i.invariant.kept c.loop-i.invariant.begins c.loop-i.invariant.values)

@@ -1,6 +1,4 @@
-use Rattle.std.proofs.Common.{subst, sym}
-use Rattle.std.specs.Prelude.{All}
-use Rattle.corner_table.specs.Moves.{IsListed, marked_of}
+use Rattle.corner_table.specs.Moves.{marked_of}
 use Rattle.corner_table.specs.Tables.{lists_of}
 use Rattle.corner_table.proofs.Readings.MoveFacts.{one_or_stayed, still_listed}
 use Rattle.corner_table.proofs.moved.candidates.Goals as goal

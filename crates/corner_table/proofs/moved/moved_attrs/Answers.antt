@@ -1,4 +1,3 @@
-use Rattle.std.proofs.Common.{List, ℕ}
 use Rattle.corner_table.specs.Moves.{marked_of}
 use Rattle.corner_table.specs.Tables.{lists_of}
 use Rattle.corner_table.proofs.Readings.MoveFacts.{all_moved}

@@ -1,4 +1,4 @@
-use Rattle.std.proofs.Common.{◌≡◌, ℕ, List, subst, arith, sym, rules}
+use Rattle.std.proofs.Common.{ℕ, List, subst, arith, sym}
 use Rattle.std.specs.Prelude.{Contains}
 use Rattle.std.proofs.lemmas.List.{take_all}
 use Rattle.corner_table.specs.Moves.{marked_of}

@@ -2,18 +2,15 @@ use Rattle.std.proofs.Common.{subst, sym}
 use Rattle.problem_core.specs.Corners.{NoNegativeValue}
 use Rattle.corner_joins.specs.Stops.{AllSumsFit, IsAddStop}
 use Rattle.corner.specs.Views.{CornerView}
-use Rattle.corner.proofs.Additions.AddedConsistent.{added_consistent, seen_fits, seen_stop}
+use Rattle.corner.proofs.Additions.AddedConsistent.{seen_fits, seen_stop}
 use Rattle.corner_table.specs.Tables.{lists_of}
 use Rattle.corner.proofs.corner.Corner.add_rows.Goals as goal
 
-pub join_all-requires-clause-values : goal.join_all-requires-clause-values
-join_all-requires-clause-values c = subst (λ (v : CornerView). NoNegativeValue v.problem v.marks) (sym c.self.view_is) c.requires.values
+pub join_rows-requires-clause-values : goal.join_rows-requires-clause-values
+join_rows-requires-clause-values c = subst (λ (v : CornerView). NoNegativeValue v.problem v.marks) (sym c.self.view_is) c.requires.values
 
 pub invariant_of-self : goal.invariant_of-self
-invariant_of-self c = (
-  added_consistent c.self.inside.table c.join_all.new.table c.args.rows.now c.self.inside.listed c.join_all.new.listed c.self.invariant.0 (c.join_all.ensures.alike c.self.invariant.0.alike) c.join_all.ensures.before c.in-Ok.ensures.joined,
-  c.clear_safe.ensures (lists_of c.join_all.new.table),
-)
+invariant_of-self c = (c.in-Ok.ensures.consistent, c.clear_safe.ensures (lists_of c.join_rows.new.table))
 
 pub returns-in-Err-clause-stop : goal.returns-in-Err-clause-stop
 returns-in-Err-clause-stop c =

@@ -1,0 +1,11 @@
+pub mod PlaceFacts
+pub mod MovingFacts
+pub mod PackingFacts
+pub mod PastFacts
+pub mod PackedPlaces
+pub mod PackedSlots
+pub mod PackedRows
+pub mod PackedLevels
+pub mod PackedKept
+pub mod PackedCounts
+pub mod PackedLists
