@@ -6,8 +6,8 @@ ghost use Rattle.problem_core.specs.declared.limits.TheConstants.{NUMBER_LIMIT};
 ghost use Rattle.problem_core.specs.Gaps.{value_of};
 ghost use Rattle.problem_core.specs.Kept.{IsRow};
 ghost use Rattle.diagnosis.specs.Probes as probes;
-ghost use Rattle.diagnosis.specs.Probes.{CanProbe, IsAnswer, IsBeside, IsDiagnoseStop, IsNearTo, IsNearestValue};
-ghost use Rattle.diagnosis.specs.Probes.{IsNoFurther, IsStopped, IsTried};
+ghost use Rattle.diagnosis.specs.Probes.{CanProbe, IsAnswer, IsBeside, IsDiagnoseStop, IsNearTo};
+ghost use Rattle.diagnosis.specs.Probes.{IsNearestValue, IsNoFurther, IsStopped, IsTried};
 ghost use Rattle.diagnosis.specs.Probes.{NoConflict, next_num, side, turned, wish_row};
 
 use cert_core::{Path, RunStop, UnfitPath};
@@ -181,7 +181,9 @@ fn pushed(
         row: number,
         constant: target,
     };
-    let value = e.value_after(&[row], to, attr, budget)?;
+    let Ok(value) = e.value_after(&[row], to, attr, budget) else {
+        return None;
+    };
     let _ = value.num(); // for the proof: what a fraction keeps
     if is_past(value, target, up) {
         return None;
@@ -251,8 +253,10 @@ fn is_same(a: Frac, b: Frac) -> bool
 
 /// Whether an attribute moves among the assignments that are best without the stays, and how far.
 ///
-/// Two probes are made at most, one up and, where nothing above is reached, one down, each with the whole
-/// budget. The engine is as before. A stop names the direction of its probe.
+/// Two probes are made at most, one up and, where nothing above is reached, one down. Each makes up to three
+/// runs, each with the whole budget: a row behind the value joins, its constant changes, and only where that
+/// is no answer a row at the wished value joins instead. A stop is one of this last run, or that there is no
+/// such value; it names the direction of its probe. The engine is as before.
 pub fn ambiguous(
     alloc: Global,
     e: &mut Engine,

@@ -19,6 +19,8 @@ use Rattle.layout_solver.specs.Layouts.{AreValuesAt, IsKeptSolution, Layout, Sol
 use Rattle.layout_solver.specs.Engines.{AreItsValues, HasValues, HaveValues, IsSolved, layout_of, solution_at, solutions_at}
 use Rattle.layout_solver.specs.Shifts.{CanShift, IsAtMark, shifted, with_shifts}
 use Rattle.layout_solver.specs.Starts.{CanTake, IsMoved, attrs_of}
+use Rattle.layout_solver.specs.Trials.{IsTrialStop}
+use Rattle.layout_solver.specs.declared.trying.TrialStop.{TrialStop}
 use Rattle.layout_solver.specs.ValuesUnique.{values_are_one}
 use Rattle.layout_solver.proofs.Earlier.{earlier_length, forgot_kept, kept_cons, same_solutions}
 use Rattle.layout_solver.proofs.Starts.Rooms.{added_room}
@@ -216,6 +218,14 @@ module _ (c mid : CornerView) (v : List (ℕ × Fraction)) (past : HaveValues c.
   refused_stop attrs rows budget stop h =
       subst (λ (rs : List Row). IsStopOf false (with_added l attrs rows) rs (FromAdded (with_added l attrs rows) l.corner rows) budget stop) same-rows
       (subst (λ (ms : List Mark). IsStopOf false (with_added l attrs rows) mid.problem.rows (FromAdded (with_added l attrs rows) ms rows) budget stop) same-marks
+      (h (with_added l attrs rows) (marked_moved attrs rows)))
+
+  pub refused_trial : (attrs : List ℕ) (rows : List Row) (to : Change) (budget : ℕ) (stop : TrialStop)
+      → ((p : Problem) → IsMoved mid attrs (mid.problem.rows ++ rows) p → IsTrialStop p mid.problem.rows mid.marks rows to budget stop)
+      → IsTrialStop (with_added l attrs rows) l.problem.rows l.corner rows to budget stop
+  refused_trial attrs rows to budget stop h =
+      subst (λ (rs : List Row). IsTrialStop (with_added l attrs rows) rs l.corner rows to budget stop) same-rows
+      (subst (λ (ms : List Mark). IsTrialStop (with_added l attrs rows) mid.problem.rows ms rows to budget stop) same-marks
       (h (with_added l attrs rows) (marked_moved attrs rows)))
 
   module _ (end new : CornerView) (before : end.before ≡ mid.before) (back : end.before ≡ scene_of new ∷ new.before) where

@@ -16,3 +16,4 @@ pub mod AtTargets
 pub mod Reordered
 pub mod KeptOrders
 pub mod MovedValues
+pub mod Trials

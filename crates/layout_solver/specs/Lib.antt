@@ -8,3 +8,4 @@ pub mod Removals
 pub mod Keeping
 pub mod Instances
 pub mod Moves
+pub mod Trials

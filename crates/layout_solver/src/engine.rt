@@ -27,6 +27,7 @@ ghost use Rattle.layout_solver.specs.Keeping.{AreAtStays, NoConflict, with_kept}
 ghost use Rattle.layout_solver.specs.Removals.{CanLeave, HasRemoved, IsRemoveStop, stood, with_removed};
 ghost use Rattle.layout_solver.specs.Engines.{HasValues, HaveValues};
 ghost use Rattle.layout_solver.specs.Starts.{HasAdded};
+ghost use Rattle.layout_solver.specs.Trials.{IsTrialStop};
 ghost use Rattle.layout_solver.specs.ValuesUnique.{lists_are_one, one_list};
 
 use crate::changing::extend;
@@ -34,7 +35,7 @@ use crate::keeping::reorder;
 use crate::reading::{has_level, has_stay, row_of};
 use crate::removing::{RemoveStop, shrink};
 use crate::shifting::alter;
-use crate::trying::{pushed, tried};
+use crate::trying::{TrialStop, pushed, tried};
 use cert_core::{Best, RunStop};
 use certificates::{certificate, error};
 use corner::Corner;
@@ -262,14 +263,25 @@ impl Engine {
 
     /// The value that the attribute would have if rows joined and one row had another constant, with the
     /// stays at the present values. The rows join first, and the constant changes then: where the rows join
-    /// without cost, this is one dual run. `None` where something stops either run. The engine is as before.
-    pub fn value_after(&mut self, rows: &[Row], to: Change, attr: u32, budget: u64) -> Option<Frac>
+    /// without cost, this is one dual run. Each of the two runs has the whole budget. The engine is as
+    /// before.
+    ///
+    /// A stop says what ends this way. Where one comes, `value_with` may go another way to the same end.
+    pub fn value_after(
+        &mut self,
+        rows: &[Row],
+        to: Change,
+        attr: u32,
+        budget: u64,
+    ) -> Result<Frac, TrialStop>
         requires room { length self.old.earlier < VERSION_LIMIT }
         requires whole { IsWhole (with_added self.old [] rows.now) }
         requires near { IsNear (with_added self.old [] rows.now) to.row to.constant }
         requires attr { HasStay self.old.problem.stays attr }
-        ensures value { IfSome result
+        ensures value { IfOk result
             (IsBestValue (with_constant to.row to.constant (with_added self.old [] rows.now)) attr) }
+        ensures stop { IfErr result (IsTrialStop (with_added self.old [] rows.now) self.old.problem.rows
+            self.old.corner rows.now to budget) }
         ensures same { self.new ≡ self.old }
     {
         self.corner.mark();

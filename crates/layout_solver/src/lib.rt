@@ -55,7 +55,8 @@
 //! To read: `reading` finds rows and stays. `changing`, `removing`, `shifting` and `keeping` have the ways
 //! of a corner to the best one of another problem, with more rows, with fewer, with other constants, or with
 //! another order of stays; `trying` goes such a way for what an attribute would be, and `starting` one from
-//! nothing. `engine` is what callers use. `laws` has small problems where a removal stops, and what is no such stop.
+//! nothing. `engine` is what callers use. `laws` has small problems where a removal stops, and what is no
+//! such stop.
 #![tactic(auto)]
 
 mod changing;
@@ -72,3 +73,4 @@ pub use engine::{Change, Engine};
 pub use laws::{removals_stop_plainly, some_cannot_leave, some_removals_stop};
 pub use removing::RemoveStop;
 pub use starting::{started, started_by_rows};
+pub use trying::TrialStop;

@@ -1,5 +1,5 @@
 // The best corner of a problem, found anew.
-ghost use Rattle.std.specs.Prelude.{◌≡◌, ◌<◌, ◌+◌, [], length, take, false, IfOk, IfErr, IfSome};
+ghost use Rattle.std.specs.Prelude.{◌≡◌, ◌<◌, ◌+◌, [], length, take, drop, false, IfOk, IfErr};
 ghost use Rattle.problem_core.specs.Layout as layout;
 ghost use Rattle.problem_core.specs.Kept.{IsWhole};
 ghost use Rattle.problem_core.specs.Corners.{NoNegativeValue};
@@ -7,6 +7,7 @@ ghost use Rattle.cert_core.specs.Stops.{IsStopOf};
 ghost use Rattle.corner.specs.Changes.{FromAdded};
 ghost use Rattle.corner_ends.specs.Runs.{HasEnded};
 ghost use Rattle.layout_solver.specs.Starts.{HasAdded, IsMarkedHere, as_problem};
+ghost use Rattle.layout_solver.specs.Trials.{AreLed, IsEachStop, IsJoinStop, IsLeadStop};
 
 use crate::changing::join;
 use cert_core::RunStop;
@@ -85,37 +86,47 @@ pub fn started(alloc: Global, stays: &[Stay], rows: &[Row], budget: u64) -> Resu
 }
 
 // Adds the next row, and goes on to the best corner.
-fn join_next(alloc: Global, c: &mut Corner, rows: &[Row], i: usize, budget: u64) -> Option<()>
+fn join_next(
+    alloc: Global,
+    c: &mut Corner,
+    rows: &[Row],
+    i: usize,
+    budget: u64,
+) -> Result<(), RunStop>
     requires marked { 0 < length c.old.before }
     requires within { i < length rows.now }
     requires held { c.old.problem.rows ≡ take i rows.now }
     requires whole { IsWhole (as_problem rows.now c.old.problem.stays) }
     requires values { NoNegativeValue c.old.problem c.old.marks }
-    ensures problem { IfSome result
+    ensures problem { IfOk result
         (λ _. c.new.problem ≡ as_problem (take (i + 1) rows.now) c.old.problem.stays) }
-    ensures values { IfSome result (λ _. NoNegativeValue c.new.problem c.new.marks) }
+    ensures values { IfOk result (λ _. NoNegativeValue c.new.problem c.new.marks) }
     ensures before { c.new.before ≡ c.old.before }
+    ensures path { IfOk result (λ _. HasAdded (as_problem (take (i + 1) rows.now) c.old.problem.stays)
+        c.old.marks (take 1 (drop i rows.now)) budget c.new.marks) }
+    ensures stop { IfErr result (IsJoinStop c.old.problem.stays rows.now budget i c.old.marks) }
 {
-    let Ok(()) = join(alloc, c, &rows[i..i + 1], budget) else {
-        return None;
-    };
-    Some(())
+    join(alloc, c, &rows[i..i + 1], budget)
 }
 
-// Adds rows one after another, and goes on to the best corner after each.
-fn join_each(alloc: Global, c: &mut Corner, rows: &[Row], budget: u64) -> Option<()>
+// Adds rows to the corner of none one after another, and goes on to the best corner after each.
+fn join_each(alloc: Global, c: &mut Corner, rows: &[Row], budget: u64) -> Result<(), RunStop>
     requires marked { 0 < length c.old.before }
     requires none { c.old.problem.rows ≡ [] }
+    requires first { c.old.marks ≡ [] }
     requires whole { IsWhole (as_problem rows.now c.old.problem.stays) }
     requires values { NoNegativeValue c.old.problem c.old.marks }
-    ensures problem { IfSome result (λ _. c.new.problem ≡ as_problem rows.now c.old.problem.stays) }
-    ensures values { IfSome result (λ _. NoNegativeValue c.new.problem c.new.marks) }
+    ensures problem { IfOk result (λ _. c.new.problem ≡ as_problem rows.now c.old.problem.stays) }
+    ensures values { IfOk result (λ _. NoNegativeValue c.new.problem c.new.marks) }
     ensures before { c.new.before ≡ c.old.before }
+    ensures led { IfOk result
+        (λ _. AreLed c.old.problem.stays rows.now budget (length rows.now) c.new.marks) }
+    ensures stop { IfErr result (IsEachStop c.old.problem.stays rows.now budget) }
 {
     for i in 0..rows.len() {
         join_next(alloc, c, rows, i, budget)?;
     }
-    Some(())
+    Ok(())
 }
 
 // Gives the corner of nothing these stays, and then one row after another; goes on to the best corner, and
@@ -126,45 +137,48 @@ fn fill_by_rows(
     stays: &[Stay],
     rows: &[Row],
     budget: u64,
-) -> Option<()>
+) -> Result<(), RunStop>
     requires marked { 0 < length c.old.before }
     requires new { c.old.problem ≡ as_problem [] [] }
     requires none { c.old.marks ≡ [] }
     requires whole { IsWhole (as_problem rows.now stays.now) }
-    ensures problem { IfSome result (λ _. c.new.problem ≡ as_problem rows.now stays.now) }
-    ensures end { IfSome result (λ _. HasEnded c.new) }
-    ensures marked { IfSome result (λ _. IsMarkedHere c.new) }
+    ensures problem { IfOk result (λ _. c.new.problem ≡ as_problem rows.now stays.now) }
+    ensures end { IfOk result (λ _. HasEnded c.new) }
+    ensures marked { IfOk result (λ _. IsMarkedHere c.new) }
+    ensures stop { IfErr result (IsLeadStop stays.now rows.now budget) }
 {
-    let Ok(()) = add_stays(c, stays) else {
-        return None;
-    };
+    add_stays(c, stays)?;
     c.show_corner(); // for the proof: what a corner keeps
     join_each(alloc, c, rows, budget)?;
-    let Ok(()) = settle(alloc, c, budget) else {
-        return None;
-    };
+    settle(alloc, c, budget)?;
     c.mark();
-    Some(())
+    Ok(())
 }
 
 /// The best corner of the problem of these stays and rows, marked, to which the rows lead one after another:
-/// where each joins what is best of those before it, the rows of the corner stay short. `None` where
-/// something stops that; [`started`] tells what.
-pub fn started_by_rows(alloc: Global, stays: &[Stay], rows: &[Row], budget: u64) -> Option<Corner>
+/// where each joins what is best of those before it, the rows of the corner stay short.
+///
+/// A stop is that of one of the runs, each of which has the whole budget. Where one stops, [`started`] goes
+/// another way, and may come to the end.
+pub fn started_by_rows(
+    alloc: Global,
+    stays: &[Stay],
+    rows: &[Row],
+    budget: u64,
+) -> Result<Corner, RunStop>
     requires whole { IsWhole (as_problem rows.now stays.now) }
-    ensures problem { IfSome result (λ c. c.problem ≡ as_problem rows.now stays.now) }
-    ensures end { IfSome result HasEnded }
-    ensures marked { IfSome result IsMarkedHere }
+    ensures problem { IfOk result (λ c. c.problem ≡ as_problem rows.now stays.now) }
+    ensures end { IfOk result HasEnded }
+    ensures marked { IfOk result IsMarkedHere }
+    ensures stop { IfErr result (IsLeadStop stays.now rows.now budget) }
 {
-    let Ok(mut corner) = Corner::new(alloc) else {
-        return None;
-    };
+    let mut corner = Corner::new(alloc)?;
     corner.mark();
     match fill_by_rows(alloc, &mut corner, stays, rows, budget) {
-        Some(()) => Some(corner),
-        None => {
+        Ok(()) => Ok(corner),
+        Err(stop) => {
             drop(corner); // for the proof: moved on
-            None
+            Err(stop)
         }
     }
 }

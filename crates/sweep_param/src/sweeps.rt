@@ -191,7 +191,9 @@ fn swept_by_rows(alloc: Global, p: &Problem, range: &Range) -> Option<Vec<Stretc
         (stretches_of s.items)) }
 {
     p.show_whole(); // for the proof: what a problem keeps
-    let mut corner = started_by_rows(alloc, p.stays(), p.rows(), range.budget)?;
+    let Ok(mut corner) = started_by_rows(alloc, p.stays(), p.rows(), range.budget) else {
+        return None;
+    };
     let all = swept(alloc, &mut corner, range);
     drop(corner); // for the proof: moved on, not taken apart here
     match all {

@@ -1,4 +1,4 @@
-// The views whose frames are others than before the latest step.
+// The views whose frames are others than in the scene before.
 ghost use Rattle.std.specs.Prelude.{◌≡◌, [], IfOk, IfSome, IfNone};
 ghost use Rattle.std.specs.List.Sorted.{IsStrictlyIncreasing};
 
@@ -11,11 +11,12 @@ impl Session {
 
     /// The numbers of the views whose frames aren't those of the scene that `undo` would give back, rising:
     /// of the views that moved, of those that came, and of those that left, which have no frame now. So right
-    /// after a step these are the frames that it changed, and before an `undo` those that it will change; a
-    /// line that only asks leaves them. A view `id` of these has the frame `frame(ViewId(id))`.
+    /// after a change that was accepted and was no `undo` these are the frames that it changed, and before an
+    /// `undo` those that it will change; what is refused, or only asks, leaves them as they are. A view `id`
+    /// of these has the frame `frame(ViewId(id))`.
     ///
     /// There is no answer exactly where no earlier scene is kept, as after as many times `undo` as there were
-    /// scenes: then any frame may have changed. It takes as long as what the step changed, whatever is held,
+    /// scenes: then any frame may have changed. It takes as long as what has changed since, whatever is held,
     /// and its one error is want of memory.
     pub fn moved(&self) -> Result<Option<Vec<u32>>, OutOfMemory>
         ensures some { IfOk result (λ moved. IfSome moved

@@ -26,5 +26,5 @@ value_after-requires-clause-near c =
 
 pub returns-clause-value : goal.returns-clause-value
 returns-clause-value c =
-    pushed_value c.args.e.now c.args.attr c.next_number-number.result c.args.up c.side_of.result c.in_ok-behind.behind c.args.target c.in_ok-value.value c.in-Ok.row c.in-Ok.ensures (c.next_number-number.ensures ∙ ap next_number c.rows.ensures) c.side_of.ensures c.show_layout.ensures.whole
-    (wish_whole c.args.e.now c.args.attr (side c.args.up) c.args.target c.show_layout.ensures.whole c.show_layout.ensures.best.attributes c.show_layout.ensures.kept c.requires.target c.requires.can).1 c.requires.can c.num.ensures.kept.lowest.above (c.is_past.ensures c.if-is_past.false) c.in_ok-value.ensures.value
+    pushed_value c.args.e.now c.args.attr c.next_number-number.result c.args.up c.side_of.result c.in_ok-behind.behind c.args.target c.in-Ok-value_after.value c.in-Ok.row c.in-Ok.ensures (c.next_number-number.ensures ∙ ap next_number c.rows.ensures) c.side_of.ensures c.show_layout.ensures.whole
+    (wish_whole c.args.e.now c.args.attr (side c.args.up) c.args.target c.show_layout.ensures.whole c.show_layout.ensures.best.attributes c.show_layout.ensures.kept c.requires.target c.requires.can).1 c.requires.can c.num.ensures.kept.lowest.above (c.is_past.ensures c.if-is_past.false) c.in-Ok-value_after.ensures.value

@@ -11,8 +11,8 @@ pub started_by_rows-requires : goal.started_by_rows-requires
 started_by_rows-requires c = record { whole = parts_whole c.args.p.now c.rows.result.now c.stays.result.now c.rows.ensures c.stays.ensures c.show_whole.ensures }
 
 pub swept-all-requires-clause-range : goal.swept-all-requires-clause-range
-swept-all-requires-clause-range c = subst (λ (q : Problem). IsRangeOf q c.args.range.now) (sym (c.in_ok-corner.ensures.problem ∙ ap₂ as_problem c.rows.ensures c.stays.ensures)) c.requires.range
+swept-all-requires-clause-range c = subst (λ (q : Problem). IsRangeOf q c.args.range.now) (sym (c.in-Ok.ensures.problem ∙ ap₂ as_problem c.rows.ensures c.stays.ensures)) c.requires.range
 
-pub returns-in-Ok : goal.returns-in-Ok
-returns-in-Ok c =
-    subst (λ (q : Problem). IsSweep q c.args.range.now.row c.args.range.now.from c.args.range.now.to (stretches_of c.in-Ok.all.items)) (c.in_ok-corner.ensures.problem ∙ ap₂ as_problem c.rows.ensures c.stays.ensures) c.in-Ok.ensures.sweep
+pub returns-in-Ok-all : goal.returns-in-Ok-all
+returns-in-Ok-all c =
+    subst (λ (q : Problem). IsSweep q c.args.range.now.row c.args.range.now.from c.args.range.now.to (stretches_of c.in-Ok-all.all.items)) (c.in-Ok.ensures.problem ∙ ap₂ as_problem c.rows.ensures c.stays.ensures) c.in-Ok-all.ensures.sweep

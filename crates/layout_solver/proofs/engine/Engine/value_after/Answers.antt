@@ -1,11 +1,12 @@
 use Rattle.std.proofs.Common.{rules, [], ◌++◌, subst, sym}
-use Rattle.std.proofs.lemmas.Option.{IfSome_then}
+use Rattle.std.proofs.lemmas.Result.{IfErr-weaker, IfOk-weaker}
 use Rattle.problem_core.specs.Layout.{Problem}
 use Rattle.corner_lines.specs.Shifts.{with_constant}
 use Rattle.corner.specs.Shifts.Shifting.{IsNear}
 use Rattle.layout_solver.specs.Layouts.{IsBestValue, with_added}
 use Rattle.layout_solver.specs.Starts.{IsMoved}
-use Rattle.layout_solver.proofs.Changes.{marked_is, marked_moved, marked_stay, marked_values, marked_whole, refused_before, refused_same, refused_solved, refused_values}
+use Rattle.layout_solver.specs.Trials.{IsTrialStop}
+use Rattle.layout_solver.proofs.Changes.{marked_is, marked_moved, marked_stay, marked_values, marked_whole, refused_before, refused_same, refused_solved, refused_trial, refused_values}
 use Rattle.layout_solver.proofs.engine.Engine.value_after.Goals as goal
 
 pub pushed-result-requires-clause-values : goal.pushed-result-requires-clause-values
@@ -48,12 +49,22 @@ pushed-result-requires-clause-near c = λ p moved.
 
 pub returns-clause-value : goal.returns-clause-value
 returns-clause-value c =
-    IfSome_then c.pushed-result.result
-    {P = λ f. (p : Problem) → IsMoved c.mark.new.self [] (c.mark.new.self.problem.rows ++ c.args.rows.now) p → IsBestValue (with_constant c.args.to.row c.args.to.constant p) c.args.attr f}
-    {Q = IsBestValue (with_constant c.args.to.row c.args.to.constant (with_added c.args.self.now [] c.args.rows.now)) c.args.attr}
-    c.pushed-result.ensures.value
+    IfOk-weaker c.pushed-result.result
+    (λ f. (p : Problem) → IsMoved c.mark.new.self [] (c.mark.new.self.problem.rows ++ c.args.rows.now) p → IsBestValue (with_constant c.args.to.row c.args.to.constant p) c.args.attr f)
+    (IsBestValue (with_constant c.args.to.row c.args.to.constant (with_added c.args.self.now [] c.args.rows.now)) c.args.attr)
     (λ f h. h (with_added c.args.self.now [] c.args.rows.now) (marked_moved c.self.inside.corner c.mark.new.self c.self.inside.values.0 c.self.inside.earlier c.args.self.now
     (record { solved = c.self.invariant; view = c.self.view_is; scene = c.mark.ensures.scene; before = c.mark.ensures.before; room = c.requires.room }) [] c.args.rows.now))
+    c.pushed-result.ensures.value
+
+pub returns-clause-stop : goal.returns-clause-stop
+returns-clause-stop c =
+    IfErr-weaker c.pushed-result.result
+    (λ stop. (p : Problem) → IsMoved c.mark.new.self [] (c.mark.new.self.problem.rows ++ c.args.rows.now) p
+    → IsTrialStop p c.mark.new.self.problem.rows c.mark.new.self.marks c.args.rows.now c.args.to c.args.budget stop)
+    (IsTrialStop (with_added c.args.self.now [] c.args.rows.now) c.args.self.now.problem.rows c.args.self.now.corner c.args.rows.now c.args.to c.args.budget)
+    (λ stop h. refused_trial c.self.inside.corner c.mark.new.self c.self.inside.values.0 c.self.inside.earlier c.args.self.now
+    (record { solved = c.self.invariant; view = c.self.view_is; scene = c.mark.ensures.scene; before = c.mark.ensures.before; room = c.requires.room }) [] c.args.rows.now c.args.to c.args.budget stop h)
+    c.pushed-result.ensures.stop
 
 pub returns-clause-same : goal.returns-clause-same
 returns-clause-same c =
