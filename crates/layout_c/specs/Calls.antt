@@ -36,17 +36,15 @@ outcome (Ok reply) = DONE
 outcome (Err OutOfMemory) = OUT_OF_MEMORY
 outcome (Err refusal) = REFUSED
 
--- By this number a step was made that the machine allows: accepted, or refused with no change. Or memory was
--- wanting, with no change.
-abbrev pub IsStep : (Reply → State → Type 0) → (old new : State) → ℕ → Type 0
-IsStep Allows old new answer =
-    ((reply : Reply) × Allows reply new × (is_accepted reply ≡ true) × (answer ≡ DONE))
-    ⊎ ((reply : Reply) × Allows reply old × (is_accepted reply ≡ false) × (answer ≡ REFUSED) × (new ≡ old))
-    ⊎ ((answer ≡ OUT_OF_MEMORY) × (new ≡ old))
-
--- Such a step was made of the session, and a line that says the version comes too late from then on.
+-- By this number a step was made that the machine allows: accepted, and a line that says the version comes
+-- too late from then on; or refused, with nothing done. Or memory was wanting, with nothing done.
 abbrev pub Steps : (Reply → State → Type 0) → (old new : Talking) → ℕ → Type 0
-Steps Allows old new answer = IsStep Allows old.state new.state answer × (new.begun ≡ true)
+Steps Allows old new answer =
+    ((reply : Reply) × Allows reply new.state × (is_accepted reply ≡ true) × (new.begun ≡ true)
+    × (answer ≡ DONE))
+    ⊎ ((reply : Reply) × Allows reply old.state × (is_accepted reply ≡ false) × (answer ≡ REFUSED)
+    × (new ≡ old))
+    ⊎ ((answer ≡ OUT_OF_MEMORY) × (new ≡ old))
 
 -- ---- numbers
 

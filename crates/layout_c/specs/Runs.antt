@@ -26,8 +26,8 @@ IsRunIn script room text status = (IsEndIn script text status × IsFaultless roo
     ⊎ ((status ≡ WriteFault) × (text ≡ []) × (whole : List ℕ) × (end : Status)
     × IsEndIn script whole end × (room < length whole))
 
--- where a call answers a script by this number, its run ended so; or memory was wanting, and nothing stands in
--- the room
+-- where a call answers a script by this number, its run ended so; or memory was wanting, and nothing stands
+-- in the room
 abbrev pub IsAnswerTo : (script : List ℕ) (room : ℕ) (text : List ℕ) → ℕ → Type 0
 IsAnswerTo script room text answer =
     ((status : Status) × (answer ≡ status_code status) × IsRunIn script room text status)

@@ -159,16 +159,18 @@ impl Responder {
         good
     }
 
-    /// Does what a command says that no line says: as the line that says it would, but that no reply is
-    /// written. After a refusal all is as before; a line that says the version comes too late from then on.
+    /// Does what a command says that no line says: as the line that says it would in a session of a version
+    /// that has it, but that no reply is written. Where it is accepted, a line that says the version comes
+    /// too late from then on; otherwise all is as before.
     pub fn apply(&mut self, command: Command<'_>) -> Result<Reply, Refusal>
         ensures accepted { Accepting (MeaningStep self.old.state (view command.entry)) self.new.state result }
         ensures refused { Refusing (MeaningStep self.old.state (view command.entry)) self.old.state result }
-        ensures begun { self.new.begun ≡ true }
-        ensures same { OnErr result (self.new.state ≡ self.old.state) }
+        ensures begun { OnOk result (self.new.begun ≡ true) }
+        ensures same { OnErr result (self.new ≡ self.old) }
     {
+        let reply = self.session.apply(Reading::Command(command))?;
         self.begun = true;
-        self.session.apply(Reading::Command(command))
+        Ok(reply)
     }
 
     /// Answers a line: appends the lines of its reply, and says whether that is a refusal. After want of
