@@ -369,6 +369,21 @@ impl ClaimDraft {
         Ok(Claim::IsBest { values, best })
     }
 
+    // The claim that was read, where more than values was.
+    fn claim(&mut self, alloc: Global) -> Result<Claim, OutOfMemory>
+        requires draft { IsDraft self.old }
+        requires more { self.old.stage ≡ Stage.Values → ⊥ }
+        ensures { IfOk result (Ends self.old) }
+    {
+        if let Stage::Path(path) = &self.stage {
+            return path.claim(alloc);
+        }
+        if self.takes_levels() {
+            return self.best_claim(alloc);
+        }
+        Ok(Claim::IsConflict(self.conflict(alloc)?))
+    }
+
     /// The claim that was read, if what must stand in one was read.
     pub(crate) fn finish(&mut self, alloc: Global) -> Result<Option<Claim>, OutOfMemory>
         requires { IsDraft self.old }
@@ -378,12 +393,6 @@ impl ClaimDraft {
         if self.takes_values() {
             return Ok(None);
         }
-        if let Stage::Path(path) = &self.stage {
-            return Ok(Some(path.claim(alloc)?));
-        }
-        if !self.takes_levels() {
-            return Ok(Some(Claim::IsConflict(self.conflict(alloc)?)));
-        }
-        Ok(Some(self.best_claim(alloc)?))
+        Ok(Some(self.claim(alloc)?))
     }
 }
