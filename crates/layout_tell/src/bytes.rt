@@ -62,15 +62,48 @@ pub fn piece_len(text: &[u8]) -> usize {
     more.saturating_add(1)
 }
 
-/// Where the word stands behind this place, if it is there, as a word of its own.
+// Whether the word stands between these texts: a sign, or a word of its own that is no attribute.
+fn stands(front: &[u8], rest: &[u8], word: &[u8]) -> bool {
+    match rest.strip_prefix(word) {
+        Some(_) if word_len(word) == 0 => true,
+        Some(behind) => { word_len(behind) == 0 && !ends_in_word(front) && !front.ends_with(b".") }
+        None => false,
+    }
+}
+
+/// Where the word stands behind this place, if it is there, as a word of its own and no attribute.
 pub fn find_word(text: &[u8], from: usize, word: &[u8]) -> Option<usize> {
     for at in from..text.len() {
         let (front, rest) = cut(text, at);
-        if let Some(behind) = rest.strip_prefix(word) {
-            let is_whole = word_len(behind) == 0 || !ends_in_word(word);
-            if is_whole && (!ends_in_word(front) || word_len(word) == 0) {
-                return Some(at);
-            }
+        if stands(front, rest, word) {
+            return Some(at);
+        }
+    }
+    None
+}
+
+// The text before the `"` that it ends with, and before the blanks in front of that.
+fn before_quote(text: &[u8]) -> &[u8] {
+    match text.strip_suffix(b"\"") {
+        Some(front) => front.trim_ascii_end(),
+        None => b"",
+    }
+}
+
+// Whether the text ends with this key, a `:` behind it, and the `"` that a text begins with.
+fn is_under(front: &[u8], key: &[u8]) -> bool {
+    match before_quote(front).strip_suffix(b":") {
+        Some(front) => before_quote(front.trim_ascii_end()).ends_with(key),
+        None => false,
+    }
+}
+
+/// Where the name stands behind this place of a tree, as the text of this key.
+pub fn find_under(text: &[u8], from: usize, key: &[u8], name: &[u8]) -> Option<usize> {
+    for at in from..text.len() {
+        let (front, rest) = cut(text, at);
+        if stands(front, rest, name) && is_under(front, key) {
+            return Some(at);
         }
     }
     None

@@ -27,16 +27,17 @@ macro_rules! cause {
     };
 }
 
+// The first one counts that the words begin with: so `limit lines` stands before `limit line`.
 const CAUSES: [Cause; 29] = [
     cause!("syntax" ""),
     cause!("unknown" "nothing has this name: make it first, or mend the name"),
     cause!("taken" "a view or a metric has this name, or it is the window's: take another one"),
+    cause!("limit lines" "groups have at most 2,000 lines together: remove some"),
     cause!("limit line" "a line has at most 4,096 bytes: break it in two"),
     cause!("limit name" "a name has at most 64 bytes"),
     cause!("limit views" "there are at most 200 views, the window among them"),
     cause!("limit depth" "views stand in each other at most 32 deep, the window counted"),
     cause!("limit metrics" "there are at most 500 metrics"),
-    cause!("limit lines" "groups have at most 2,000 lines together: remove some"),
     cause!("limit rows" "there are at most 2,000 rows: remove some lines"),
     cause!("limit terms" "a line has at most 64 terms: break it in two"),
     cause!("limit attributes" "a row has at most 32 attributes: break the line in two"),
@@ -60,13 +61,22 @@ const CAUSES: [Cause; 29] = [
 ];
 
 // What is said where the text of a tree is no JSON, by what stands there.
-const JSON: [(&str, &str); 7] = [
+const JSON: [(&str, &str); 13] = [
     ("'", "texts stand in `\"`"),
     ("\u{201c}", "texts stand in the `\"` of the keyboard"),
     ("\u{201d}", "texts stand in the `\"` of the keyboard"),
     ("#", "no comment stands there: it has a line of its own"),
-    ("}", "no `,` stands in front of a `}`"),
-    ("]", "no `,` stands in front of a `]`"),
+    ("//", "no comment stands there: it has a line of its own"),
+    (",", "one tree stands in a line: write a line for each"),
+    (
+        "{",
+        "a `,` is missing, or a second tree stands there, which has a line of its own",
+    ),
+    ("\"", "a `,` is missing in front of it"),
+    ("=", "between a key and what it has stands a `:`"),
+    (";", "between two keys stands a `,`"),
+    ("}", "a `}` stands there too early, or behind a `,`"),
+    ("]", "a `]` stands there too early, or behind a `,`"),
     (
         "",
         "keys and names are texts, in `\"`; between two stands a `,`, and each `{` and `[` is closed",
@@ -145,5 +155,8 @@ fn second_in(pairs: &[(&str, &'static str)], text: &str) -> &'static str {
 
 /// What is said of a tree's text that is no JSON from here on.
 pub fn json_cure(rest: &str) -> &'static str {
-    second_in(&JSON, rest)
+    match rest.is_empty() {
+        true => "the text ends too early: each `{`, `[` and `\"` is closed by another",
+        false => second_in(&JSON, rest),
+    }
 }

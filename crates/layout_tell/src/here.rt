@@ -10,11 +10,13 @@ pub struct ScriptLine<'a> {
     pub text: &'a [u8],
 }
 
-/// A line, the session that it comes to, the lines that its rows are from, and the reader of its version.
+/// A line and its script, the session that it comes to, the lines that its rows are from, and the reader of
+/// its version.
 #[derive(Clone, Copy)]
 pub struct Here<'a> {
     pub reader: Reader,
     pub session: &'a Session,
     pub owners: &'a Owners<'a>,
     pub line: ScriptLine<'a>,
+    pub script: &'a [u8],
 }

@@ -19,18 +19,26 @@
 //! stand at a place), `near` (words like another), `cures` (the table of mistakes), `mending`; `causes`
 //! (the tables of causes and forms), `finding` (what is told of a line, as an object), `marks` (where it
 //! is), `talk` (a session), `owners` (from rows to lines), `here` (a line and what stands when it comes),
-//! `rows` (conflicts), `unknown`, `open` (what would pin), `telling` (one refusal), `people` (its text),
+//! `makers` (which line makes what has a name), `forward` (a line put forward), `leaving` (lines outside the
+//! grammar), `unknown`, `naming` (names that nothing or something else has), `misuse`, `shapes` (of trees),
+//! `rows`, `clashing` (conflicts), `open` (what would pin), `telling` (one refusal), `people` (its text),
 //! `words` (the program's), `script` (all lines), `problem`.
 #![tactic(auto)]
 
 mod bytes;
 mod causes;
+mod clashing;
 mod cures;
 mod expected;
 mod finding;
+mod forward;
 mod here;
+mod leaving;
+mod makers;
 mod marks;
 mod mending;
+mod misuse;
+mod naming;
 mod near;
 mod open;
 mod owners;
@@ -39,6 +47,7 @@ mod problem;
 mod reader;
 mod rows;
 mod script;
+mod shapes;
 mod talk;
 mod telling;
 mod unknown;

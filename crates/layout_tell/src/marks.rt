@@ -1,5 +1,5 @@
 // Where in its line a refusal is.
-use crate::bytes::{char_count, cut, find_word, piece_len};
+use crate::bytes::{char_count, cut, find_under, find_word, piece_len, word_start};
 use crate::causes::json_cure;
 use crate::finding::Finding;
 use frac_core::OutOfMemory;
@@ -7,16 +7,40 @@ use serde_json::{Error, Value};
 use span_text::first_word;
 use std::alloc::Global;
 
-// The text behind the first word, and behind the group where one follows it.
+// The text behind its first word.
+fn behind_word(text: &[u8]) -> &[u8] {
+    match first_word(text) {
+        Some((_, rest)) => rest,
+        None => text,
+    }
+}
+
+// Whether a format's own signs begin there: what stands before are a group, an alignment and a direction.
+fn begins_format(b: u8) -> bool {
+    b == b':' || b == b'[' || b == b'|'
+}
+
+// The text from a format's first sign on.
+fn format_of(text: &[u8]) -> &[u8] {
+    match text.iter().position(|b| begins_format(*b)) {
+        Some(at) => cut(text, at).1,
+        None => text,
+    }
+}
+
+// The text behind the command's own words, and behind the group where one follows.
 fn behind_words(line: &[u8]) -> &[u8] {
     match first_word(line) {
-        Some((b"vfl" | b"constrain", rest)) => match first_word(rest) {
-            Some((_, rest)) => rest,
-            None => rest,
-        },
+        Some((b"vfl", rest)) => format_of(rest),
+        Some((b"constrain", rest)) => behind_word(rest),
         Some((_, rest)) => rest,
         None => line,
     }
+}
+
+/// Where what stands behind the command's own words begins.
+pub fn own_place(line: &[u8]) -> usize {
+    line.len().saturating_sub(behind_words(line).len())
 }
 
 // Where the first word begins.
@@ -32,12 +56,38 @@ fn view_part(name: &[u8]) -> &[u8] {
     cut(name, end).0
 }
 
-/// Where the name stands behind the command's own words; or the view that it begins with; or the first word.
-pub fn place_of(line: &[u8], name: &[u8]) -> usize {
-    let from = line.len().saturating_sub(behind_words(line).len());
+// Where the name stands behind the command's own words; or the view that it begins with; or the first word.
+fn place_of(line: &[u8], name: &[u8]) -> usize {
+    let from = own_place(line);
     find_word(line, from, name)
         .or(find_word(line, from, view_part(name)))
         .unwrap_or(first_place(line))
+}
+
+/// Where the name stands that nothing has: in a tree under `in`, in a line `view` at its end.
+pub fn unknown_place(line: &[u8], name: &[u8]) -> usize {
+    match first_word(line) {
+        Some((b"tree", _)) => find_under(line, 0, b"in", name).unwrap_or(first_place(line)),
+        Some((b"view", _)) => word_start(line.trim_ascii_end()),
+        _ => place_of(line, name),
+    }
+}
+
+// Where the name stands in a tree: the first such object, or the one behind it where that is what is wrong.
+fn named_place(line: &[u8], name: &[u8], is_twice: bool) -> Option<usize> {
+    let first = find_under(line, 0, b"name", name)?;
+    match is_twice {
+        true => find_under(line, first.saturating_add(1), b"name", name),
+        false => Some(first),
+    }
+}
+
+/// Where the name stands that is taken, maybe by an object of the same tree.
+pub fn taken_place(line: &[u8], name: &[u8], is_twice: bool) -> usize {
+    match first_word(line) {
+        Some((b"tree", _)) => named_place(line, name, is_twice).unwrap_or(first_place(line)),
+        _ => place_of(line, name),
+    }
 }
 
 /// Where what shows a cause stands, or the first word.
@@ -48,8 +98,8 @@ pub fn mark_place(line: &[u8], mark: &str) -> usize {
     }
 }
 
-// The text of a tree, and where it begins.
-fn tree_text(line: &[u8], start: usize) -> &str {
+/// The text of a tree, which begins there.
+pub fn tree_text(line: &[u8], start: usize) -> &str {
     std::str::from_utf8(cut(line, start).1).unwrap_or("")
 }
 

@@ -17,7 +17,7 @@ pub fn distance(alloc: Global, a: &str, b: &str) -> Result<usize, OutOfMemory> {
 /// The greatest distance at which a word of so many bytes is like another.
 pub fn reach(len: usize) -> usize {
     match len {
-        0..=3 => 2,
+        0..=5 => 2,
         _ => 3,
     }
 }

@@ -55,17 +55,39 @@ fn set_pin(alloc: Global, item: &mut Finding, attr: &str, value: Frac) -> Result
     item.set_text("pin", &text)
 }
 
-// The object of an attribute that is at a value and could be at another.
-fn item_of(alloc: Global, session: &Session, attr: u32, reach: Frac) -> Result<Value, OutOfMemory> {
-    let mut item = Finding::new(alloc);
+// An attribute's name.
+fn name_of(alloc: Global, session: &Session, attr: u32) -> Result<String, OutOfMemory> {
     let mut name = String::new(alloc);
     put_attr(&mut name, session, attr)?;
+    Ok(name)
+}
+
+// Says of an attribute that it is at a value and could be at another.
+fn set_item(
+    alloc: Global,
+    item: &mut Finding,
+    name: &str,
+    value: Frac,
+    reach: Frac,
+) -> Result<(), OutOfMemory> {
+    item.set_text("attribute", name)?;
+    set_frac(alloc, item, "value", value)?;
+    set_frac(alloc, item, "reach", reach)?;
+    set_pin(alloc, item, name, value)
+}
+
+// The object of an attribute that is at a value and could be at another.
+fn item_of(alloc: Global, session: &Session, attr: u32, reach: Frac) -> Result<Value, OutOfMemory> {
+    let name = name_of(alloc, session, attr)?;
     let value = session.engine().value(attr).unwrap_or(reach);
-    item.set_text("attribute", &name)?;
-    set_frac(alloc, &mut item, "value", value)?;
-    set_frac(alloc, &mut item, "reach", reach)?;
-    set_pin(alloc, &mut item, &name, value)?;
-    Ok(item.value())
+    let mut item = Finding::new(alloc);
+    match set_item(alloc, &mut item, &name, value, reach) {
+        Ok(()) => Ok(item.value()),
+        Err(stop) => {
+            drop(item);
+            Err(stop)
+        }
+    }
 }
 
 /// The attributes that could be elsewhere, each with its value, another one, and what would pin it.

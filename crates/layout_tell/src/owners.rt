@@ -41,6 +41,11 @@ impl<'a> Owners<'a> {
             .copied()
     }
 
+    /// The lines that brought rows, in order.
+    pub fn all(&self) -> &[Owner<'a>] {
+        &self.owners
+    }
+
     // Forgets the lines whose rows were taken back.
     fn forget(&mut self, next: u32) {
         let len = self.owners.iter().filter(|owner| owner.from < next).count();

@@ -1,12 +1,29 @@
 // Rows in words, and the lines that they come from.
+use crate::bytes::find_word;
 use crate::finding::Finding;
 use crate::here::Here;
+use crate::owners::Owner;
 use cert_core::{By, Conflict};
 use frac_core::{Frac, OutOfMemory};
 use problem_core::{Problem, REQUIRED, Row, RowName, Term};
 use reply_texts::push_attr;
 use serde_json::{Value, push};
 use session_undo::Session;
+use span_text::first_word;
+
+const WAY_OUT: &str = "give one of these lines a priority, as @750, or take it out";
+
+const ALONE: &str = "no layout satisfies this line, whatever else there is: mend it";
+
+const BOUND: &str =
+    "no width and no height is below 0, and the window begins at 0, 0: mend this line";
+
+const NUMBER: &str = "take another number, or give one of the other lines a priority, as @750";
+
+const DRAG: &str = "a suggestion of 1000 is required: take a smaller priority, or none for 750";
+
+const ALIGNED: &str =
+    "views with nothing between them touch: to align them alone, `constrain` one with the other";
 
 /// Appends a fraction.
 pub fn put_frac(out: &mut String, value: Frac) -> Result<(), OutOfMemory> {
@@ -93,17 +110,51 @@ fn is_moved(session: &Session, row: &Row) -> bool {
     }
 }
 
+// What a row comes from.
+#[derive(Clone, Copy)]
+enum Source<'a> {
+    /// The refused line.
+    Own,
+    /// A line that makes views, or the window: it holds without being said.
+    Bound(Option<Owner<'a>>),
+    /// Another line.
+    Line(Owner<'a>),
+}
+
+// What an owner's row comes from.
+fn source_by(owner: Owner<'_>) -> Source<'_> {
+    match first_word(owner.text) {
+        Some((b"view" | b"tree", _)) => Source::Bound(Some(owner)),
+        _ => Source::Line(owner),
+    }
+}
+
+// What the row of this number comes from.
+fn source_of(here: Here<'_>, id: u32) -> Source<'_> {
+    match here.owners.of(id) {
+        Some(owner) => source_by(owner),
+        None if id < here.owners.next() => Source::Bound(None),
+        None => Source::Own,
+    }
+}
+
+// Says which line it is.
+fn set_line(item: &mut Finding, number: usize, text: &[u8]) -> Result<(), OutOfMemory> {
+    item.set_number("line", number)?;
+    item.set_bytes("text", text)
+}
+
 // Says from which line the row of this number is.
 fn set_source(here: Here<'_>, item: &mut Finding, id: u32) -> Result<(), OutOfMemory> {
-    match here.owners.of(id) {
-        Some(owner) => {
-            item.set_number("line", owner.line)?;
-            item.set_bytes("text", owner.text)
-        }
-        None if id < here.owners.next() => Ok(()),
-        None => {
-            item.set_number("line", here.line.number)?;
-            item.set_bytes("text", here.line.text)
+    match source_of(here, id) {
+        Source::Own => set_line(item, here.line.number, here.line.text),
+        Source::Line(owner) => set_line(item, owner.line, owner.text),
+        Source::Bound(owner) => {
+            item.set_text("note", ", which holds without being said")?;
+            match owner {
+                Some(owner) => set_line(item, owner.line, owner.text),
+                None => Ok(()),
+            }
         }
     }
 }
@@ -172,4 +223,75 @@ pub fn conflict_rows(
         push_by(here, &mut items, problem, by)?;
     }
     Ok(Value::from(items))
+}
+
+/// What way there is out of a conflict, and whether the line as a wish is one.
+#[derive(Clone, Copy)]
+pub struct Way {
+    pub what: &'static str,
+    pub has_wish: bool,
+}
+
+// From what the rows of a conflict are.
+#[derive(Clone, Copy)]
+struct Met {
+    is_bound: bool,
+    is_line: bool,
+}
+
+// From what the rows of these multipliers are.
+fn meets(here: Here<'_>, bys: &[By]) -> Met {
+    let mut met = Met {
+        is_bound: false,
+        is_line: false,
+    };
+    for by in bys {
+        if let RowName::Held(id) = by.row {
+            match source_of(here, id) {
+                Source::Own => (),
+                Source::Bound(_) => met.is_bound = true,
+                Source::Line(_) => met.is_line = true,
+            }
+        }
+    }
+    met
+}
+
+// A way out that is no wish.
+fn no_wish(what: &'static str) -> Way {
+    Way {
+        what,
+        has_wish: false,
+    }
+}
+
+// The way out for a format.
+fn format_way(line: &[u8]) -> Way {
+    match find_word(line, 0, b"align") {
+        Some(_) => no_wish(ALIGNED),
+        None => no_wish(WAY_OUT),
+    }
+}
+
+// The way out where other lines stand against this one.
+fn way_by_line(line: &[u8]) -> Way {
+    match first_word(line) {
+        Some((b"constrain", _)) => Way {
+            what: WAY_OUT,
+            has_wish: true,
+        },
+        Some((b"vfl", _)) => format_way(line),
+        Some((b"suggest", _)) => no_wish(DRAG),
+        _ => no_wish(NUMBER),
+    }
+}
+
+/// What way there is out of a conflict.
+pub fn way_out(here: Here<'_>, conflict: &Conflict) -> Way {
+    let met = meets(here, conflict.by());
+    match (met.is_line, met.is_bound) {
+        (true, _) => way_by_line(here.line.text),
+        (false, true) => no_wish(BOUND),
+        (false, false) => no_wish(ALONE),
+    }
 }

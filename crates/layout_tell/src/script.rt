@@ -157,6 +157,7 @@ fn tell_line<'a>(
     session: &mut Session,
     owners: &mut Owners<'a>,
     line: ScriptLine<'a>,
+    script: &'a [u8],
 ) -> Result<(), OutOfMemory> {
     told.lines = told.lines.saturating_add(1);
     let reply = reply_to(reader.alloc, session, line.text);
@@ -165,6 +166,7 @@ fn tell_line<'a>(
         session,
         owners,
         line,
+        script,
     };
     let end = tell_reply(here, told, &reply);
     drop(reply); // for the proof: moved on, not taken apart here
@@ -188,7 +190,10 @@ fn tell_lines<'a>(
         if !is_silent(text) {
             match is_opening {
                 true => told.lines = told.lines.saturating_add(1),
-                false => tell_line(reader, told, session, owners, ScriptLine { number, text })?,
+                false => {
+                    let line = ScriptLine { number, text };
+                    tell_line(reader, told, session, owners, line, script)?
+                }
             }
             is_opening = false;
         }

@@ -65,6 +65,55 @@ pub fn text_of(
     Ok(String::from_utf8_lossy(alloc, &text)?)
 }
 
+// The refusal that a command gets before anything is solved, if it gets one.
+fn early_refusal(session: &Session, command: &Command<'_>) -> Option<Refusal> {
+    match session.step_problem(command) {
+        Ok(problem) => {
+            drop(problem);
+            None
+        }
+        Err(refusal) => Some(refusal),
+    }
+}
+
+// The text of a refusal, and an empty one of none.
+fn refusal_text(
+    alloc: Global,
+    session: &Session,
+    refusal: Option<Refusal>,
+) -> Result<String, OutOfMemory> {
+    match refusal {
+        Some(refusal) => {
+            let reply = Err(refusal);
+            let text = text_of(alloc, session, &reply);
+            drop(reply);
+            text
+        }
+        None => Ok(String::new(alloc)),
+    }
+}
+
+// The text of the refusal of what is said before anything is solved; an empty one where there is none.
+fn early_text(
+    alloc: Global,
+    session: &Session,
+    reading: &Reading<'_>,
+) -> Result<String, OutOfMemory> {
+    match reading {
+        Reading::Command(command) => refusal_text(alloc, session, early_refusal(session, command)),
+        Reading::Why(_) => Ok(String::new(alloc)),
+    }
+}
+
+/// The text of the refusal that a line would get before anything is solved; an empty one where it gets none.
+pub fn early_reply(alloc: Global, session: &Session, line: &[u8]) -> Result<String, OutOfMemory> {
+    match read_line_in(alloc, line, session.version()) {
+        Ok(reading) => early_text(alloc, session, &reading),
+        Err(Stop::Refused(_)) => Ok(String::new(alloc)),
+        Err(Stop::OutOfMemory) => Err(OutOfMemory),
+    }
+}
+
 // The problem of a command's step. Nothing here needs a clause of `step_problem`.
 fn problem_of(session: &Session, command: &Command<'_>) -> Result<Option<Problem>, OutOfMemory> {
     match session.step_problem(command) {
