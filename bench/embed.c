@@ -4,12 +4,14 @@
        valgrind --tool=callgrind ./embed WHAT TIMES < examples/embed/form.script
 
    WHAT is `none`, `resize` (a window of one of two sizes in turn, and which views it moved), `suggest` (a width, which
-   is another one each time) or `remove` (a line that joins and leaves again). The form is there before that. ARCHIVE is
+   is another one each time), `remove` (a line that joins and leaves again) or `turns` (one of each, and at the end the
+   most memory that the process had, in kibibytes). The form is there before that. ARCHIVE is
    what `rt lib` makes in crates/layout_c, and KIT the folder of the first line that `rt doc` prints. */
 #include "layout.h"
 #include <stdio.h>
 #include <stdlib.h>
 #include <string.h>
+#include <sys/resource.h>
 
 static const uint8_t view[] = "cancel";
 
@@ -20,6 +22,11 @@ static uint8_t say(layout_session *session, const char *line) {
 }
 
 static uint8_t step(layout_session *session, const char *what, long i) {
+    if (strcmp(what, "turns") == 0) {
+        uint8_t end = step(session, "resize", i);
+        if (end == LAYOUT_DONE) end = step(session, "suggest", i);
+        return end == LAYOUT_DONE ? step(session, "remove", i) : end;
+    }
     uint32_t moved[256];
     size_t count = 0;
     if (strcmp(what, "resize") == 0) {
@@ -46,5 +53,7 @@ int main(int argc, char **argv) {
     for (long i = 0; strcmp(argv[1], "none") != 0 && i < atol(argv[2]); i++)
         if (step(&session, argv[1], i) != LAYOUT_DONE) return 1;
     layout_free(&session);
+    struct rusage used;
+    if (strcmp(argv[1], "turns") == 0 && getrusage(RUSAGE_SELF, &used) == 0) printf("%ld\n", used.ru_maxrss);
     return 0;
 }
