@@ -46,16 +46,29 @@ pub fn place_of(kept: &[Numbered], number: u32) -> Option<usize>
     place_by_halves(kept, number)
 }
 
+// The slot of the number, sought by halves.
+fn slot_by_halves(kept: &[Numbered], number: u32) -> u32
+    requires { IsRising kept.now }
+    ensures { result ≡ slice_index_or (by_number kept.now) number 0 }
+{
+    let Some(i) = place_by_halves(kept, number) else {
+        return 0;
+    };
+    let one = kept[i];
+    one.slot
+}
+
 /// The slot of the number.
 pub fn slot_of(kept: &[Numbered], number: u32) -> u32
     requires { IsRising kept.now }
     ensures { result ≡ slice_index_or (by_number kept.now) number 0 }
 {
-    let Some(i) = place_of(kept, number) else {
-        return 0;
-    };
-    let one = kept[i];
-    one.slot
+    let i = guess(kept, number);
+    if is_at(kept, i, number) {
+        let one = kept[i];
+        return one.slot;
+    }
+    slot_by_halves(kept, number)
 }
 
 /// Whether all numbers that are kept are below this one.

@@ -2,7 +2,7 @@
 // that others took the place of since, or that left.
 ghost use Rattle.std.specs.Prelude.{◌≡◌, ◌+◌, ◌-◌, ◌<◌, ◌≤◌, ℕ, List, [], length, take, slice_set};
 ghost use Rattle.std.specs.Prelude.{slice_index};
-ghost use Rattle.std.specs.Prelude.{IsTrue, ◌↔◌, false, All, OnErr, OnOk};
+ghost use Rattle.std.specs.Prelude.{IsTrue, ◌↔◌, false, All, IfSome, OnErr, OnOk};
 ghost use Rattle.std.specs.List.{insert, remove};
 ghost use Rattle.std.specs.VecDeque.{deque_len, deque_capacity};
 ghost use Rattle.version_list.specs.Versions.{IsOwn};
@@ -150,6 +150,23 @@ fn old_log<T: Drop>(logs: &mut VecDeque<Log<T>>, spare: &mut Option<Log<T>>) -> 
     mem::replace(spare, None)
 }
 
+// A log with room for more than this gives its memory back: so one change that moved much leaves none taken.
+const MOST_KEPT: usize = 64;
+
+// The log without what it has, unless it has room for much more than changes need as a rule.
+fn cleared<T: Drop>(log: Log<T>) -> Option<Log<T>>
+    ensures empty { IfSome result (λ l. l.replaced.items ≡ []) }
+    ensures whole { IfSome result (λ l. l.removed.items ≡ []) }
+{
+    let mut log = log;
+    if log.replaced.capacity() > MOST_KEPT || log.removed.capacity() > MOST_KEPT {
+        return None;
+    }
+    log.replaced.clear();
+    log.removed.clear();
+    Some(log)
+}
+
 /// An empty log, with memory that there is.
 pub fn empty_log<T: Drop>(
     logs: &mut VecDeque<Log<T>>,
@@ -162,10 +179,10 @@ pub fn empty_log<T: Drop>(
     ensures rest { logs.new.items ≡ take (VERSION_LIMIT - 1) logs.old.items }
     ensures capacity { deque_capacity logs.new ≡ deque_capacity logs.old }
 {
-    if let Some(mut log) = old_log(logs, spare) {
-        log.replaced.clear();
-        log.removed.clear();
-        return log;
+    if let Some(old) = old_log(logs, spare) {
+        if let Some(log) = cleared(old) {
+            return log;
+        }
     }
     Log {
         len: 0,

@@ -135,8 +135,8 @@ impl<T> VersionList<T> {
         marked_at(&self.logs[0], &self.list, i)
     }
 
-    /// The places where another element may stand than at the newest mark: those that were written since, or
-    /// came. Where an element left, it is all of them.
+    /// At least the places where another element stands than at the newest mark: those that were written
+    /// since, or came. Where an element left, it is all of them.
     pub fn written(&self) -> Result<Vec<usize>, OutOfMemory>
         requires { 0 < length self.now.before }
         ensures { IfOk result (λ places. (i : ℕ) → Contains places.items i
