@@ -361,6 +361,7 @@ fn put_front(table: &mut Table, listed: &mut Listed, attrs: &[u32]) -> Result<()
 // Takes the slots of nothing out where there are as many of them as of something.
 fn make_room(table: &mut Table, listed: &mut Listed) -> Result<(), OutOfMemory>
     requires { IsConsistent table.old listed.old }
+    ensures unmoved { HasSlotsLeft (lists_of table.old) → table.new ≡ table.old }
     ensures consistent { OnOk result (IsConsistent table.new listed.new) }
     ensures left { OnOk result (HasSlotsLeft (lists_of table.new)) }
     ensures problem { OnOk result (problem_of (lists_of table.new) ≡ problem_of (lists_of table.old)) }

@@ -48,8 +48,8 @@
 //! The lists are a `Table` of `corner_table`, of which `corner_writings` reads. `corner_exchange` goes to the
 //! next corner, `corner_joins` to that of a larger problem, and `corner_packing` takes slots of nothing out.
 //! To read: `shifting` goes to that with another constant, `standing` to that with other targets, `fronting`
-//! to that with another order of stays, `leaving`, with `leaving::freeing` and `leaving::dropping`, to that of
-//! a smaller problem; `safe` lists the lines that are known to be safe to turn; `lows` finds a line's mark
+//! to that with another order of stays, `leaving`, with `leaving::freeing` and `leaving::dropping`, to that
+//! of a smaller problem; `safe` lists the lines that are known to be safe to turn; `lows` finds a line's mark
 //! with a negative value; and `corner` is what callers use.
 #![tactic(auto)]
 

@@ -15,7 +15,7 @@ use Rattle.corner_table.specs.declared.table.TheConstants.{LEVELS}
 use Rattle.corner_table.specs.Views.{IsNamed}
 use Rattle.corner_table.specs.Tables.{Lists, attr_slot, line_slot, problem_of, slot_at}
 use Rattle.corner_table.specs.Kept.{AreSlots, IsKept, IsSlot}
-use Rattle.corner_table.proofs.Corners.SlotRanks.{no_slot}
+use Rattle.corner_table.specs.Tables.{no_slot}
 use Rattle.corner_table.proofs.Readings.WritingFacts.{attr_owner, line_owner}
 use Rattle.corner_table.proofs.Readings.SlotFacts.{named_stay}
 use Rattle.corner_writings.proofs.Basics.OwnerFacts.{line-like, past-slots}

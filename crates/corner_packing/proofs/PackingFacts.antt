@@ -21,7 +21,8 @@ use Rattle.corner_table.specs.Tables.{Lists, slot_at}
 use Rattle.corner_table.specs.Kept.{AreSlots, IsKept}
 use Rattle.corner_packing.specs.Packing.{ArePacked, ArePlaces, IsTaken, packed_slot}
 use Rattle.corner_packing.specs.Places.{AreDense}
-use Rattle.corner_packing.specs.Moving.{AreAtPlaces, AreCleared, AreMoved, AreRisingPlaces, HasPlaces, IsPlaced, no_slot, no_standing}
+use Rattle.corner_packing.specs.Moving.{AreAtPlaces, AreCleared, AreMoved, AreRisingPlaces, HasPlaces, IsPlaced}
+use Rattle.corner_table.specs.Tables.{no_slot, no_standing}
 use Rattle.corner_packing.proofs.PlaceFacts.{below_or, no_place, place_none}
 use Rattle.corner_packing.proofs.MovingFacts.{placed_within}
 

@@ -1,13 +1,7 @@
 -- Lists whose elements move to their places, one slot after the other.
 use Rattle.std.specs.Prelude.{◌≡◌, ◌≢◌, ◌⊎◌, ℕ, ◌<◌, ◌≤◌, List, [], length, slice_index_or, slice_set, All}
-use Rattle.std.specs.Prelude.{pos, None}
 use Rattle.row_core.specs.Rows.{Term}
 use Rattle.row_core.specs.Renames.{place_in}
-use Rattle.problem_core.specs.declared.parts.Rel.TheVariants.{Eq}
-use Rattle.corner_table.specs.declared.table.Owner.TheVariants.{Level as LevelSlot}
-use Rattle.corner_table.specs.declared.table.Slot.{Slot}
-use Rattle.corner_table.specs.declared.table.Standing.{Standing}
-use Rattle.problem_core.specs.Window.{zero_fraction}
 use Rattle.corner_table.specs.declared.table.TheConstants.{LEVELS, MOST_SLOTS}
 use Rattle.indexed_rows.specs.Indexes.{row_at}
 
@@ -26,14 +20,6 @@ pub record AreRisingPlaces (places : List ℕ) (count : ℕ) : Type 0 where
   pub rising : (v w : ℕ) → v < w → IsPlaced places v → IsPlaced places w
       → place_in places v < place_in places w
   pub onto : (v : ℕ) → v < count → (w : ℕ) × IsPlaced places w × (place_in places w ≡ v)
-
--- what a slot past the last one says
-abbrev pub no_slot : Slot
-no_slot = record { owner = LevelSlot; home = 0; rank = 0; weight = pos 1; scale = pos 1; rel = Eq }
-
--- where a slot past the last one stands
-abbrev pub no_standing : Standing
-no_standing = record { side = None; value = zero_fraction }
 
 -- where the slot has a place, x is there, and else nothing has changed
 pub record IsMoved {X : Type 0} (places : List ℕ) (w : ℕ) (x : X) (old new : List X) : Type 0 where

@@ -14,8 +14,8 @@ abbrev pub IsTaken : Lists → ℕ → Type 0
 IsTaken t w = (w < LEVELS) ⊎ ((w < length t.slots) × ((slot_at t w).owner ≢ LevelSlot))
 
 -- by slot the place that it gets: the slots that are taken get all places below the count, in their order,
--- those of the levels their own, and one that follows another one the next place; no other slot gets one, which
--- the place 0 says
+-- those of the levels their own, and one that follows another one the next place; no other slot gets one,
+-- which the place 0 says
 pub record ArePlaces (t : Lists) (places : List ℕ) (count : ℕ) : Type 0 where
   pub length_is : length places ≡ length t.slots
   pub levels : (w : ℕ) → w < LEVELS → place_in places w ≡ w

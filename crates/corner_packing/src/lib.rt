@@ -1,9 +1,9 @@
 //! Slots that are of nothing go, so that those of what left are used again.
 //!
 //! What leaves a corner leaves slots of nothing in its lists. [`pack`] takes them out: the others move to the
-//! places before, in their order, and with them the columns of all rows. The problem, the marks inside and the
-//! listed lines stay. It costs as much as there is in the lists, so `corner` calls it where as many slots are of
-//! nothing as of something.
+//! places before, in their order, and with them the columns of all rows. The problem, the marks inside and
+//! the listed lines stay. It costs as much as there is in the lists, so `corner` calls it where as many slots
+//! are of nothing as of something.
 //!
 //! ```
 //! // slots of a, its stay, nothing, and a row, past those of the levels

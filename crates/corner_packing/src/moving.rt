@@ -5,11 +5,11 @@ ghost use Rattle.indexed_rows.specs.Indexes.{row_at};
 ghost use Rattle.corner_table.specs.declared.table.TheConstants.{MOST_SLOTS};
 ghost use Rattle.corner_table.specs.Histories.{AreAlike, HasSameHistory, lists_before};
 ghost use Rattle.corner_table.specs.Kept.{IsKept};
-ghost use Rattle.corner_table.specs.Tables.{lists_of};
+ghost use Rattle.corner_table.specs.Tables.{lists_of, no_slot, no_standing};
 ghost use Rattle.corner_packing.specs.Packing as packing;
 ghost use Rattle.corner_packing.specs.Packing.{ArePacked, ArePlaces};
 ghost use Rattle.corner_packing.specs.Moving.{AreAtPlaces, AreCleared, AreMoved, HasPlaces, IsMoved};
-ghost use Rattle.corner_packing.specs.Moving.{AreRisingPlaces, IsPlaced, no_slot, no_standing};
+ghost use Rattle.corner_packing.specs.Moving.{AreRisingPlaces, IsPlaced};
 
 use crate::places::Places;
 use corner_table::{LEVELS, OWN_RANK, Slot, Standing, Table};

@@ -57,20 +57,21 @@ lists_of t = record {
 
 -- ---- by slot
 
+-- of nothing
+abbrev pub no_slot : Slot
+no_slot = record { owner = LevelSlot; home = 0; rank = 0; weight = pos 1; scale = pos 1; rel = Eq }
+
+-- where a slot of nothing stands
+abbrev pub no_standing : Standing
+no_standing = record { side = None; value = zero_fraction }
+
 -- what the slot says; past the last one it is of nothing
 abbrev pub slot_at : Lists → ℕ → Slot
-slot_at t w = slice_index_or t.slots w (record {
-  owner = LevelSlot;
-  home = 0;
-  rank = 0;
-  weight = pos 1;
-  scale = pos 1;
-  rel = Eq;
-})
+slot_at t w = slice_index_or t.slots w no_slot
 
 -- the slot's side, if it is an inside line's, and its value; past the last one no side, and 0
 abbrev pub standing_at : Lists → ℕ → Standing
-standing_at t w = slice_index_or t.standings w (record { side = None; value = zero_fraction })
+standing_at t w = slice_index_or t.standings w no_standing
 
 -- the unit of a level's cost, and how many rows the level has; past the last level 1 and none
 abbrev pub priority_at : Lists → ℕ → priority_type.Priority

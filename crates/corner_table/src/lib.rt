@@ -3,9 +3,9 @@
 //! A [`Table`] has a problem's rows and stays, and a slot for each attribute, line and priority level: a row
 //! and a column of one sparse matrix of whole numbers. [`new_table`] is that of no row and no stay. What a
 //! quantity is worth is the value in its slot ([`value_at`]); a line's slot says which of its marks is inside
-//! ([`side_at`]), and [`marks_with`] names all of these. A slot whose attribute or line left is of nothing, and
-//! there are never more than [`MOST_SLOTS`] slots: [`is_crowded`] tells when those of nothing have to go. Each
-//! list has as many earlier versions: [`mark`], [`back`], [`forget`] and [`rewind`] keep them alike.
+//! ([`side_at`]), and [`marks_with`] names all of these. A slot whose attribute or line left is of nothing,
+//! and there are never more than [`MOST_SLOTS`] slots: [`is_crowded`] tells when those of nothing have to go.
+//! Each list has as many earlier versions: [`mark`], [`back`], [`forget`] and [`rewind`] keep them alike.
 //! [`moved_attrs`] lists the attributes whose values are others than at the newest mark.
 //!
 //! ```

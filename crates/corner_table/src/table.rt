@@ -1,6 +1,6 @@
 // The lists that a corner is kept in.
 ghost use Rattle.std.specs.Prelude.{◌≡◌, ◌<◌, ◌≤◌, ◌-◌, ◌+◌, ◌^◌, [], ◌∷◌, List, false, length, take};
-ghost use Rattle.std.specs.Prelude.{IfOk, OnOk};
+ghost use Rattle.std.specs.Prelude.{IfOk, IsTrue, OnOk};
 ghost use Rattle.indexed_rows.specs.Matrices.{IsBelow};
 ghost use Rattle.version_list.specs.declared.TheConstants.{VERSION_LIMIT};
 ghost use Rattle.corner_table.specs.Tables.{Lists, lists_of};
@@ -159,7 +159,8 @@ pub fn next_slot(table: &Table) -> u32
 pub fn is_crowded(table: &Table) -> bool
     requires stays { length table.now.stays.items ≤ ROW_LIMIT }
     requires rows { length table.now.rows.items ≤ ROW_LIMIT }
-    ensures { result ≡ false → HasSlotsLeft (lists_of table.now) }
+    ensures left { result ≡ false → HasSlotsLeft (lists_of table.now) }
+    ensures crowded { IsTrue result → HasSlotsLeft (lists_of table.now) → ⊥ }
 {
     let taken = 2 * table.stays.len() + table.rows.len();
     table.slots.len() > LEVELS as usize + 2 * taken + SPARE_SLOTS as usize

@@ -340,8 +340,8 @@ fn try_each(sick: Sick<'_>, search: &mut Search, cures: &[Cure]) -> Result<(), O
     Ok(())
 }
 
-// One part of the table each: a constant is kept in the frame of the function that names it, whose proof grows
-// with the square of the part.
+// One part of the table each: a constant is kept in the frame of the function that names it, whose proof
+// grows with the square of the part.
 fn try_relations(sick: Sick<'_>, search: &mut Search) -> Result<(), OutOfMemory> {
     try_each(sick, search, &RELATIONS)
 }

@@ -35,7 +35,8 @@ use Rattle.corner_table.specs.declared.table.Owner.TheVariants.{Level as LevelSl
 use Rattle.corner_table.specs.declared.table.Slot.{Slot}
 use Rattle.corner_table.specs.declared.table.Standing.{Standing}
 use Rattle.corner_table.specs.declared.table.TheConstants.{LEVELS, MOST_SLOTS}
-use Rattle.corner.specs.Removals.Dropping.{dropped_attr, no_slot}
+use Rattle.corner_table.specs.Tables.{no_slot, no_standing}
+use Rattle.corner.specs.Removals.Dropping.{dropped_attr}
 use Rattle.corner_table.specs.Kept.{AreOutside, AreSlots, AreStored, HasStayRoom, IsAttrRow, IsAttrSlot, IsEquationAt, IsKept, IsLevelKept, IsLineRow, IsLineSlot, IsOwned, IsSlot, home_of}
 use Rattle.corner_writings.specs.Rows.{row_number}
 use Rattle.corner_table.specs.Tables.{Lists, attr_slot, entry, is_side, line_slot, marks_at, number, priority_at, problem_of, row_at, slot_at, standing_at, stands_in, stay_rank}
@@ -50,7 +51,7 @@ use Rattle.corner_exchange.proofs.Pivots.PairFacts.{named_mark}
 use Rattle.corner_table.proofs.Readings.ReadFacts.{attr_equation}
 use Rattle.corner_table.proofs.Readings.SlotFacts.{any_is, named_slot}
 use Rattle.corner_table.proofs.Readings.WritingFacts.{attr_apart, attr_owner, lines_apart}
-use Rattle.corner.proofs.Removals.DroppedKept.{EquationBy, no_standing}
+use Rattle.corner.proofs.Removals.DroppedKept.{EquationBy}
 use Rattle.problem_core.proofs.Lines.{rows-change as rows-left}
 use Rattle.corner_writings.proofs.Readings.MovedFacts.{side_itself as side-true}
 use Rattle.problem_core.proofs.Sides.{zero-kept as zero_kept}

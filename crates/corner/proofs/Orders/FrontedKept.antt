@@ -1,22 +1,18 @@
 -- Lists keep what they keep where stays are put before all others: `fronted_kept`. No equation and no priority level
 -- reads the order of the stays.
-use Rattle.std.proofs.Common.{◌≡◌, ◌≢◌, ◌∙◌, ℕ, ◌+◌, ◌*◌, ◌^◌, ◌<◌, ◌≤◌, Bool, true, List, length, slice_index_or, refl, sym, ap, subst, arith, ℤ, pos, ◌*ℤ◌, ◌-ℤ◌, unsigned_abs, All, AllPairs, Any, Contains, Some, None}
+use Rattle.std.proofs.Common.{◌≡◌, ◌≢◌, ◌∙◌, ℕ, ◌+◌, ◌*◌, ◌^◌, ◌<◌, List, slice_index_or, refl, sym, ap, subst, arith, ℤ, pos, ◌*ℤ◌, ◌-ℤ◌, unsigned_abs, All, Some, None}
 use Rattle.std.specs.Int.{◌∣◌}
-use Rattle.std.specs.List.{AllByRecursion as Each}
 use Rattle.std.specs.declared.option.Option.{Option}
 use Rattle.std.proofs.lemmas.List.Elements.{recursion_from_All, All-from_recursion}
 use Rattle.frac_core.specs.Fraction.{Fraction, IsFitting}
-use Rattle.problem_core.specs.Window.{zero_fraction}
 use Rattle.problem_core.specs.declared.parts.Mark.{Mark}
 use Rattle.problem_core.specs.declared.parts.RowName.{RowName}
 use Rattle.problem_core.specs.declared.parts.RowName.TheVariants.{Held, Stay as StayOf}
 use Rattle.problem_core.specs.declared.parts.Side.{Side}
-use Rattle.problem_core.specs.declared.parts.Side.TheVariants.{Under, Over}
 use Rattle.problem_core.specs.declared.parts.Stay.{Stay}
-use Rattle.problem_core.specs.Layout.{HasStay, Line, Problem, line_of_stay, lines, sum_of}
-use Rattle.problem_core.specs.Kept.{IsWhole}
-use Rattle.problem_core.specs.Corners.{IsCorner, IsIn, Point, SameMarks, attr_column, one_column, place, place_of}
-use Rattle.problem_core.specs.Levels.{AreFitting, IsCostAt}
+use Rattle.problem_core.specs.Layout.{Line, Problem, lines}
+use Rattle.problem_core.specs.Corners.{IsCorner, SameMarks, attr_column, one_column, place, place_of}
+use Rattle.problem_core.specs.Levels.{AreFitting}
 use Rattle.corner_lines.specs.LineEquations.{IsLineEquation, IsOutsideLine, deviation, sign_of}
 use Rattle.stay_orders.specs.Orders.{fronted, with_front}
 use Rattle.stay_orders.proofs.Corners.{Unseen, corner, lines_back, lines_to, solves}
@@ -29,19 +25,19 @@ use Rattle.corner_table.specs.declared.table.Owner.{Owner}
 use Rattle.corner_table.specs.declared.table.Owner.TheVariants.{Level as LevelSlot, Attr as AttrSlot, Line as LineSlot}
 use Rattle.corner_table.specs.declared.table.Slot.{Slot}
 use Rattle.corner_table.specs.declared.table.TheConstants.{LEVELS, OWN_RANK}
-use Rattle.corner_table.specs.Tables.{Lists, attr_slot, entry, line_slot, marks_at, number, problem_of, row_at, slot_at, standing_at, stands_in, stay_rank}
-use Rattle.corner_table.specs.Kept.{AreOutside, AreSlots, AreStored, HasStayRoom, IsAttrRow, IsAttrSlot, IsEquationAt, IsKept, IsLineRow, IsLineSlot, IsOwned, IsSlot, IsStayOwner, home_of}
-use Rattle.corner_table.specs.Views.{IsMarkOf, IsNamed}
+use Rattle.corner_table.specs.Tables.{Lists, attr_slot, line_slot, marks_at, number, problem_of, row_at, slot_at, standing_at}
+use Rattle.corner_table.specs.Kept.{AreOutside, AreSlots, HasStayRoom, IsAttrSlot, IsKept, IsLineRow, IsLineSlot, IsOwned, IsSlot, IsStayOwner, home_of}
+use Rattle.corner_table.specs.Views.{IsNamed}
 use Rattle.corner_exchange.specs.Swaps.Exchanges.{IsEquationBy}
 use Rattle.corner_exchange.specs.Swaps.NextLists.{IsLevelNext, IsLineBy}
-use Rattle.corner_exchange.proofs.Basics.SmallFacts.{own_name, own_stay}
+use Rattle.corner_exchange.proofs.Basics.SmallFacts.{own_name}
 use Rattle.corner_exchange.proofs.Swaps.ExchangedMarks.{same_inside}
 use Rattle.corner_exchange.proofs.Swaps.NextFacts.{kept_by}
 use Rattle.corner_table.proofs.Readings.MarkFacts.{inside_stands, stands_inside}
 use Rattle.corner_table.proofs.Readings.SlotFacts.{any_is, named_stay}
 use Rattle.corner_writings.proofs.Basics.OwnerFacts.{line-owned, stay_owner}
-use Rattle.corner.specs.Fronted.{ranked}
-use Rattle.corner_table.proofs.Corners.SlotRanks.{AreOwnLast, no_slot}
+use Rattle.corner_table.specs.Tables.{no_slot}
+use Rattle.corner_table.proofs.Corners.SlotRanks.{AreOwnLast}
 use Rattle.corner.proofs.Orders.FrontedSlots.{AreReranked, put}
 
 -- the stays of these attributes come first, and the slots have the ranks of the new order

@@ -1,20 +1,21 @@
 -- The slots once stays have come in another order: each is as before but for its rank, and the ranks of the stays'
 -- go up with their places.
-use Rattle.std.proofs.Common.{◌≡◌, ◌≢◌, ◌∙◌, ℕ, zero, suc, ◌+◌, ◌<◌, ◌≤◌, List, [], ◌∷◌, map, length, slice_index_or, slice_set, refl, sym, ap, subst, arith, inl, inr, pos, All, AllPairs}
+use Rattle.std.proofs.Common.{◌≡◌, ◌≢◌, ◌∙◌, ℕ, zero, suc, ◌+◌, ◌<◌, ◌≤◌, List, [], ◌∷◌, map, length, slice_index_or, slice_set, refl, sym, ap, subst, arith, inl, inr, All, AllPairs}
 use Rattle.std.specs.List.{AllByRecursion as Each}
 use Rattle.std.proofs.lemmas.Bool.{cases_eq, cases_lt}
 use Rattle.std.proofs.lemmas.Grind.{get_or-set_at}
 use Rattle.std.proofs.lemmas.List.{get_or_past, get_or-set_same, get_or-set_other, length-set}
-use Rattle.std.proofs.lemmas.List.Elements.{recursion_from_All, All-from_recursion}
+use Rattle.std.proofs.lemmas.List.Elements.{recursion_from_All}
 use Rattle.frac_core.proofs.Lists.{pairs-rest}
 use Rattle.corner_laws.proofs.Counting.{head_pairs}
-use Rattle.problem_core.proofs.Forms.{each-both, each-impl}
+use Rattle.problem_core.proofs.Forms.{each-impl}
 use Rattle.problem_core.specs.declared.parts.RowName.TheVariants.{Stay as StayOf}
 use Rattle.problem_core.specs.declared.parts.Stay.{Stay}
 use Rattle.corner_table.specs.declared.table.Slot.{Slot}
 use Rattle.corner_table.specs.declared.table.TheConstants.{LEVELS, OWN_RANK}
-use Rattle.corner_table.specs.Tables.{Lists, attr_slot, line_slot, slot_at, stay_rank}
-use Rattle.corner_table.proofs.Corners.SlotRanks.{AreRanks, no_slot}
+use Rattle.corner_table.specs.Tables.{Lists, attr_slot, line_slot, slot_at}
+use Rattle.corner_table.specs.Tables.{no_slot}
+use Rattle.corner_table.proofs.Corners.SlotRanks.{AreRanks}
 use Rattle.corner.specs.Fronted.{AreFronted, ranked, slots_of, with_order, with_rank, with_ranks, with_slots}
 
 -- ---- ranks that are put one by one

@@ -19,7 +19,6 @@ use Rattle.problem_core.specs.declared.parts.Stay.{Stay}
 use Rattle.problem_core.specs.Changes.Begins.{is_one_of, without_marks}
 use Rattle.problem_core.specs.Certificates.{weight_at}
 use Rattle.problem_core.specs.Layout.{HasStay, Line, Problem, Row, line_of_row, lines, stay_lines}
-use Rattle.problem_core.specs.Window.{zero_fraction}
 use Rattle.problem_core.specs.Corners.{IsCorner, IsIn, attr_column, marks_of, place_of}
 use Rattle.problem_core.specs.Levels.{IsCostAt}
 use Rattle.problem_core.specs.Rays.{HasRays}
@@ -36,7 +35,8 @@ use Rattle.corner_table.specs.declared.table.Priority.{Priority}
 use Rattle.corner_table.specs.declared.table.Slot.{Slot}
 use Rattle.corner_table.specs.declared.table.Standing.{Standing}
 use Rattle.corner_table.specs.declared.table.TheConstants.{LEVELS, MOST_SLOTS}
-use Rattle.corner.specs.Removals.Dropping.{dropped, no_slot}
+use Rattle.corner_table.specs.Tables.{no_slot, no_standing}
+use Rattle.corner.specs.Removals.Dropping.{dropped}
 use Rattle.corner_exchange.specs.Swaps.Exchanges.{IsOutsideSlot}
 use Rattle.corner_writings.specs.Rows.{row_number}
 use Rattle.corner_table.specs.Kept.{AreOutside, AreSlots, AreStored, HasStayRoom, IsAttrRow, IsAttrSlot, IsEquationAt, IsKept, IsLevelKept, IsLineRow, IsLineSlot, IsOwned, IsSlot, home_of, row_count}
@@ -124,9 +124,6 @@ no-count t leaver k g ne =
 pub record IsDrop (t : Lists) (leaver : Leaver) (left : Left) : Type 0 where
   pub going : IsGoing t leaver
   pub level : IsLevelLeft t leaver left
-
-abbrev pub no_standing : Standing
-no_standing = record { side = None; value = zero_fraction }
 
 pub high : (w l : ℕ) → LEVELS ≤ w → l < LEVELS → w ≢ l
 high w l up lt e = omega (arith, up, lt, e)

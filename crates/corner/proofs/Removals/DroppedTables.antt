@@ -17,7 +17,8 @@ use Rattle.corner.specs.declared.leaving.Leaver.{Leaver}
 use Rattle.corner.specs.declared.leaving.Left.{Left}
 use Rattle.corner_table.specs.declared.table.TheConstants.{LEVELS}
 use Rattle.corner_joins.specs.Additions.CostJoins.{IsFreeLine}
-use Rattle.corner.specs.Removals.Dropping.{AreLeftListed, dropped, dropped_attr, freed, no_slot, with_left}
+use Rattle.corner.specs.Removals.Dropping.{AreLeftListed, dropped, dropped_attr, freed, with_left}
+use Rattle.corner_table.specs.Tables.{no_slot}
 use Rattle.corner_table.specs.Kept.{IsKept}
 use Rattle.corner_table.specs.Reads.Listing.{HasLeft}
 use Rattle.corner.specs.Removals.Leaving.{IsLeaver, IsLevelLeft}

@@ -1,22 +1,14 @@
 -- A row whose mark is inside, or an attribute that no row names, is taken out of the lists.
-use Rattle.std.specs.Prelude.{◌≢◌, ◌⊎◌, ℕ, ◌+◌, ◌≤◌, List, [], pos, slice_set, Contains, None}
+use Rattle.std.specs.Prelude.{◌≢◌, ◌⊎◌, ℕ, ◌+◌, ◌≤◌, List, [], slice_set, Contains}
 use Rattle.indexed_rows.specs.Lists.{HasColumn}
-use Rattle.problem_core.specs.declared.parts.Rel.TheVariants.{Eq}
 use Rattle.problem_core.specs.Layout.{Problem}
-use Rattle.problem_core.specs.Window.{zero_fraction}
 use Rattle.corner_lines.specs.Removals.{without_attr}
 use Rattle.corner.specs.declared.leaving.Leaver.{Leaver}
 use Rattle.corner.specs.declared.leaving.Left.{Left}
-use Rattle.corner_table.specs.declared.table.Owner.TheVariants.{Level as LevelSlot}
-use Rattle.corner_table.specs.declared.table.Slot.{Slot}
 use Rattle.corner_table.specs.declared.table.TheConstants.{LEVELS}
 use Rattle.corner_joins.specs.Additions.CostJoins.{IsLineListed}
 use Rattle.corner.specs.Removals.Leaving.{problem_left}
-use Rattle.corner_table.specs.Tables.{Lists, attr_slot, problem_of, row_at, standing_at}
-
--- of nothing
-abbrev pub no_slot : Slot
-no_slot = record { owner = LevelSlot; home = 0; rank = 0; weight = pos 1; scale = pos 1; rel = Eq }
+use Rattle.corner_table.specs.Tables.{Lists, attr_slot, no_slot, no_standing, problem_of, row_at, standing_at}
 
 -- the slot is of nothing
 abbrev pub freed : Lists → ℕ → Lists
@@ -24,7 +16,7 @@ freed t w = record {
   rows = t.rows;
   stays = t.stays;
   slots = slice_set t.slots w no_slot;
-  standings = slice_set t.standings w (record { side = None; value = zero_fraction });
+  standings = slice_set t.standings w no_standing;
   matrix = slice_set t.matrix w [];
   attr_slots = t.attr_slots;
   row_slots = t.row_slots;

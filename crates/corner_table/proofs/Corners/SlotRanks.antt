@@ -1,16 +1,12 @@
 -- What slots' ranks keep where slots come, or go.
-use Rattle.std.proofs.Common.{◌≡◌, ◌⊎◌, ℕ, ◌+◌, ◌<◌, ◌≤◌, ◌++◌, List, [], ◌∷◌, length, sym, ap, subst, arith, pos, slice_index_or, inl, inr}
+use Rattle.std.proofs.Common.{◌≡◌, ◌⊎◌, ℕ, ◌+◌, ◌<◌, ◌≤◌, ◌++◌, List, [], ◌∷◌, length, sym, ap, subst, arith, slice_index_or, inl, inr}
 use Rattle.std.proofs.lemmas.Bool.{cases_eq, cases_lt}
 use Rattle.std.proofs.lemmas.List.{get_or_past, get_or_push, length_push}
 use Rattle.std.proofs.Math.ListN.{get_or-append}
-use Rattle.problem_core.specs.declared.parts.Rel.TheVariants.{Eq}
-use Rattle.corner_table.specs.declared.table.Owner.TheVariants.{Level as LevelSlot}
 use Rattle.corner_table.specs.declared.table.Slot.{Slot}
 use Rattle.corner_table.specs.declared.table.TheConstants.{OWN_RANK}
 use Rattle.corner_table.specs.Kept.{IsStayOwner}
-
-abbrev pub no_slot : Slot
-no_slot = record { owner = LevelSlot; home = 0; rank = 0; weight = pos 1; scale = pos 1; rel = Eq }
+use Rattle.corner_table.specs.Tables.{no_slot}
 
 abbrev pub at : List Slot → ℕ → Slot
 at slots w = slice_index_or slots w no_slot

@@ -3,7 +3,7 @@ use Rattle.std.proofs.lemmas.Option.{get_or_from_slice_get}
 use Rattle.std.proofs.lemmas.Result.{on_ok_weaker}
 use Rattle.row_core.specs.Renames.{place_in}
 use Rattle.corner_packing.specs.Packing.{packed_slot}
-use Rattle.corner_packing.specs.Moving.{no_slot}
+use Rattle.corner_table.specs.Tables.{no_slot}
 use Rattle.corner_packing.proofs.MovingFacts.{same_slot, stayed, was_put}
 use Rattle.corner_packing.proofs.moving.move_slot.Goals as goal
 

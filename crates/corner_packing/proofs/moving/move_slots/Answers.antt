@@ -1,7 +1,7 @@
 use Rattle.std.proofs.Common.{rules, ◌≡◌, ◌≤◌, length, refl, take, arith}
 use Rattle.std.proofs.lemmas.Result.{on_ok_weaker}
 use Rattle.corner_packing.specs.Packing.{packed_slot}
-use Rattle.corner_packing.specs.Moving.{no_slot}
+use Rattle.corner_table.specs.Tables.{no_slot}
 use Rattle.corner_packing.proofs.MovingFacts.{all_moved, is_placed_or, one_moved, unmoved}
 use Rattle.corner_packing.proofs.moving.move_slots.Goals as goal
 

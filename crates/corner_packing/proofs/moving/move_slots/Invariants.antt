@@ -1,6 +1,7 @@
 use Rattle.std.proofs.Common.{◌≡◌}
 use Rattle.corner_packing.specs.Packing.{packed_slot}
-use Rattle.corner_packing.specs.Moving.{AreMoved, no_slot}
+use Rattle.corner_packing.specs.Moving.{AreMoved}
+use Rattle.corner_table.specs.Tables.{no_slot}
 use Rattle.corner_packing.proofs.moving.move_slots.Given as goal
 
 abbrev pub invariant-loop-w : goal.invariant-loop-w

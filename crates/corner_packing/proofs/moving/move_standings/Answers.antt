@@ -1,6 +1,6 @@
 use Rattle.std.proofs.Common.{rules, ◌≡◌, ◌≤◌, length, refl, take, arith}
 use Rattle.std.proofs.lemmas.Result.{on_ok_weaker}
-use Rattle.corner_packing.specs.Moving.{no_standing}
+use Rattle.corner_table.specs.Tables.{no_standing}
 use Rattle.corner_packing.proofs.MovingFacts.{all_moved, is_placed_or, one_moved, unmoved}
 use Rattle.corner_packing.proofs.moving.move_standings.Goals as goal
 

@@ -1,5 +1,6 @@
 use Rattle.std.proofs.Common.{◌≡◌}
-use Rattle.corner_packing.specs.Moving.{AreMoved, no_standing}
+use Rattle.corner_packing.specs.Moving.{AreMoved}
+use Rattle.corner_table.specs.Tables.{no_standing}
 use Rattle.corner_packing.proofs.moving.move_standings.Given as goal
 
 abbrev pub invariant-loop-w : goal.invariant-loop-w
