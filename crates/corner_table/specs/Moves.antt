@@ -1,5 +1,6 @@
 -- What has other values than at another time.
-use Rattle.std.specs.Prelude.{◌≡◌, ◌≢◌, ◌⊎◌, ℕ, List, [], ◌∷◌, All, Contains, None, Some, slice_index_or}
+use Rattle.std.specs.Prelude.{◌≡◌, ◌≢◌, ◌⊎◌, ℕ, List, [], ◌∷◌, All, Contains, None, Some}
+use Rattle.std.specs.Prelude.{slice_get, slice_index_or}
 use Rattle.std.specs.declared.option.Option.{Option}
 use Rattle.frac_core.specs.Fraction.{Fraction, IsLowest}
 use Rattle.problem_core.specs.Layout.{HasStay}
@@ -66,3 +67,16 @@ Keeps old new = (x : ℕ) → Contains old x → Contains new x
 -- if the slot is an attribute's, this is one of them
 abbrev pub IsListed : Lists → List ℕ → ℕ → Type 0
 IsListed t attrs w = (attr : ℕ) → (slot_at t w).owner ≡ AttrSlot attr → Contains attrs attr
+
+-- no slots but those at these places are others than they were
+abbrev pub HaveOtherSlots : Lists → Lists → List ℕ → Type 0
+HaveOtherSlots old new places = (w : ℕ) → Contains places w ⊎ (slice_get old.slots w ≡ slice_get new.slots w)
+
+-- if the slot is an attribute's, this is the attribute's value, or it has none
+abbrev pub HasOwnValue : Lists → ℕ → Option Fraction → Type 0
+HasOwnValue t w f = (attr : ℕ) → (slot_at t w).owner ≡ AttrSlot attr → Shows HasValue t attr f
+
+-- if the slot is an attribute's, this is one of them or has its value from before
+abbrev pub IsListedOrStayed : Lists → Lists → List ℕ → ℕ → Type 0
+IsListedOrStayed old new attrs w = (attr : ℕ) → (slot_at new w).owner ≡ AttrSlot attr
+    → Contains attrs attr ⊎ HasStayed HasValue old new attr

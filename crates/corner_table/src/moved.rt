@@ -1,11 +1,12 @@
 // The attributes that have other values than at the newest mark.
-ghost use Rattle.std.specs.Prelude.{◌≡◌, ◌⊎◌, ◌<◌, ℕ, All, Contains, true, false, length, IfOk, OnOk};
+ghost use Rattle.std.specs.Prelude.{◌≡◌, ◌⊎◌, ◌<◌, ℕ, [], All, Contains, true, false, length, IfOk, OnOk};
+ghost use Rattle.std.specs.Prelude.{IfNone, IfSome};
 ghost use Rattle.corner_table.specs.declared.table.Owner.TheVariants as owner_type;
 ghost use Rattle.corner_table.specs.Histories.{AreAlike};
 ghost use Rattle.corner_table.specs.Kept.{AreSlots};
 ghost use Rattle.corner_table.specs.Moves.{AreMoved, HasMoved, HasStayed, HasValue, Shows, marked_of};
-ghost use Rattle.corner_table.specs.Moves.{IsListed, Keeps};
-ghost use Rattle.corner_table.specs.Tables.{lists_of};
+ghost use Rattle.corner_table.specs.Moves.{HaveOtherSlots, HasOwnValue, IsListed, IsListedOrStayed, Keeps};
+ghost use Rattle.corner_table.specs.Tables.{lists_of, slot_at};
 
 use crate::table::{Owner, Slot, Table};
 use frac_core::{Frac, OutOfMemory};
@@ -21,6 +22,25 @@ fn is_attr(slot: &Slot, attr: u32) -> bool
     }
 }
 
+// The value at a slot, which is that of the attribute that the slot is of.
+fn slot_value_now(table: &Table, w: usize) -> Option<Frac>
+    requires { AreSlots (lists_of table.now) }
+    ensures { HasOwnValue (lists_of table.now) w result }
+{
+    let standing = table.standings.as_slice().get(w)?;
+    Some(standing.value)
+}
+
+// The value that was at a slot at the newest mark, which was that of the attribute that the slot was of.
+fn slot_value_before(table: &Table, w: usize) -> Option<Frac>
+    requires marked { 0 < length table.now.standings.before }
+    requires slots { AreSlots (marked_of table.now) }
+    ensures { HasOwnValue (marked_of table.now) w result }
+{
+    let standing = table.standings.was(w)?;
+    Some(standing.value)
+}
+
 // The value that an attribute has, if it has one.
 fn value_now(table: &Table, attr: u32) -> Option<Frac>
     requires { AreSlots (lists_of table.now) }
@@ -31,8 +51,7 @@ fn value_now(table: &Table, attr: u32) -> Option<Frac>
     if !is_attr(slot, attr) {
         return None;
     }
-    let standing = table.standings.as_slice().get(w as usize)?;
-    Some(standing.value)
+    slot_value_now(table, w as usize)
 }
 
 // The value that an attribute had at the newest mark, if it had one.
@@ -47,8 +66,7 @@ fn value_before(table: &Table, attr: u32) -> Option<Frac>
     if !is_attr(slot, attr) {
         return None;
     }
-    let standing = table.standings.was(w as usize)?;
-    Some(standing.value)
+    slot_value_before(table, w as usize)
 }
 
 // Whether the values are the same, or there is none of both.
@@ -121,18 +139,31 @@ fn push_attrs(table: &Table, places: &[usize], out: &mut Vec<u32>) -> Result<(),
     Ok(())
 }
 
-// Attributes, of which each is one that may have another value than at the newest mark.
-fn candidates(table: &Table) -> Result<Vec<u32>, OutOfMemory>
+// Puts the attributes of the slots at these places behind the others, as they are.
+fn push_present(table: &Table, places: &[usize], out: &mut Vec<u32>) -> Result<(), OutOfMemory>
+    ensures keeps { OnOk result (Keeps out.old.items out.new.items) }
+    ensures now { OnOk result (All (IsListed (lists_of table.now) out.new.items) places.now) }
+{
+    for w in places {
+        push_now(table, *w, out)?;
+    }
+    Ok(())
+}
+
+// Attributes, of which each is one that may have another value than at the newest mark, where slots at these
+// places alone are others than then. A slot that is as it was then is of what it was of then.
+fn candidates(table: &Table, slots: &[usize]) -> Result<Vec<u32>, OutOfMemory>
     requires alike { AreAlike table.now }
     requires marked { 0 < length table.now.rows.before }
     requires then { AreSlots (marked_of table.now) }
     requires now { AreSlots (lists_of table.now) }
+    requires others { HaveOtherSlots (marked_of table.now) (lists_of table.now) slots.now }
     ensures { IfOk result (λ attrs. (attr : ℕ) → Contains attrs.items attr
         ⊎ HasStayed HasValue (marked_of table.now) (lists_of table.now) attr) }
 {
     let mut out = Vec::new(table.alloc);
-    push_attrs(table, &table.slots.written()?, &mut out)?;
-    push_attrs(table, &table.standings.written()?, &mut out)?;
+    push_attrs(table, slots, &mut out)?;
+    push_present(table, &table.standings.written()?, &mut out)?;
     Ok(out)
 }
 
@@ -156,6 +187,98 @@ fn moved_of(table: &Table, attrs: &[u32]) -> Result<Vec<u32>, OutOfMemory>
     Ok(out)
 }
 
+// The attributes that have another value than at the newest mark, where slots at these places alone are
+// others than then: an attribute's slot may be another, so it is looked for by number, now and then.
+fn moved_by_number(table: &Table, slots: &[usize]) -> Result<Vec<u32>, OutOfMemory>
+    requires alike { AreAlike table.now }
+    requires marked { 0 < length table.now.rows.before }
+    requires then { AreSlots (marked_of table.now) }
+    requires now { AreSlots (lists_of table.now) }
+    requires others { HaveOtherSlots (marked_of table.now) (lists_of table.now) slots.now }
+    ensures { IfOk result (λ attrs.
+        AreMoved HasValue (marked_of table.now) (lists_of table.now) attrs.items) }
+{
+    let attrs = candidates(table, slots)?;
+    let moved = moved_of(table, &attrs)?;
+    Ok(moved)
+}
+
+// The attribute that a slot is of, if it is one's.
+fn attr_of(slot: &Slot) -> Option<u32>
+    ensures some { IfSome result (λ attr. slot.now.owner ≡ owner_type.Attr attr) }
+    ensures none { IfNone result ((attr : ℕ) → slot.now.owner ≡ owner_type.Attr attr → ⊥) }
+{
+    match slot.owner {
+        Owner::Attr(attr) => Some(attr),
+        _ => None,
+    }
+}
+
+// The attribute that the slot at a place is of, if it is one's.
+fn attr_at(table: &Table, w: usize) -> Option<u32>
+    ensures some { IfSome result (λ attr. (slot_at (lists_of table.now) w).owner ≡ owner_type.Attr attr) }
+    ensures none { IfNone result
+        ((attr : ℕ) → (slot_at (lists_of table.now) w).owner ≡ owner_type.Attr attr → ⊥) }
+{
+    let slot = table.slots.as_slice().get(w)?;
+    attr_of(slot)
+}
+
+// The attribute that the slot at a place is of, if it has another value than at the newest mark. All slots
+// are of what they were of then.
+fn moved_at(table: &Table, w: usize) -> Option<u32>
+    requires marked { 0 < length table.now.standings.before }
+    requires then { AreSlots (marked_of table.now) }
+    requires now { AreSlots (lists_of table.now) }
+    requires others { HaveOtherSlots (marked_of table.now) (lists_of table.now) [] }
+    ensures own { IfSome result (λ attr. (slot_at (lists_of table.now) w).owner ≡ owner_type.Attr attr) }
+    ensures moved { IfSome result (HasMoved HasValue (marked_of table.now) (lists_of table.now)) }
+    ensures none { IfNone result (IsListedOrStayed (marked_of table.now) (lists_of table.now) [] w) }
+{
+    let attr = attr_at(table, w)?;
+    if are_one(slot_value_before(table, w), slot_value_now(table, w)) {
+        return None;
+    }
+    Some(attr)
+}
+
+// Of the attributes that the slots at these places are of, those that have another value than at the newest
+// mark. All slots are of what they were of then.
+fn moved_at_places(table: &Table, places: &[usize]) -> Result<Vec<u32>, OutOfMemory>
+    requires marked { 0 < length table.now.standings.before }
+    requires then { AreSlots (marked_of table.now) }
+    requires now { AreSlots (lists_of table.now) }
+    requires others { HaveOtherSlots (marked_of table.now) (lists_of table.now) [] }
+    ensures moved { IfOk result (λ out.
+        All (HasMoved HasValue (marked_of table.now) (lists_of table.now)) out.items) }
+    ensures stayed { IfOk result (λ out.
+        All (IsListedOrStayed (marked_of table.now) (lists_of table.now) out.items) places.now) }
+{
+    let mut out = Vec::new(table.alloc);
+    for w in places {
+        if let Some(attr) = moved_at(table, *w) {
+            out.push(attr)?;
+        }
+    }
+    Ok(out)
+}
+
+// The attributes that have another value than at the newest mark, where all slots are of what they were of
+// then: an attribute's slot is the same, so only what was written of the values is looked at.
+fn moved_values(table: &Table) -> Result<Vec<u32>, OutOfMemory>
+    requires alike { AreAlike table.now }
+    requires marked { 0 < length table.now.rows.before }
+    requires then { AreSlots (marked_of table.now) }
+    requires now { AreSlots (lists_of table.now) }
+    requires others { HaveOtherSlots (marked_of table.now) (lists_of table.now) [] }
+    ensures { IfOk result (λ attrs.
+        AreMoved HasValue (marked_of table.now) (lists_of table.now) attrs.items) }
+{
+    let places = table.standings.written()?;
+    let moved = moved_at_places(table, &places)?;
+    Ok(moved)
+}
+
 /// The attributes that have another value than at the newest mark, or one in place of none, or none in place
 /// of one. It takes as long as what was written since.
 pub fn moved_attrs(table: &Table) -> Result<Vec<u32>, OutOfMemory>
@@ -166,7 +289,9 @@ pub fn moved_attrs(table: &Table) -> Result<Vec<u32>, OutOfMemory>
     ensures { IfOk result (λ attrs.
         AreMoved HasValue (marked_of table.now) (lists_of table.now) attrs.items) }
 {
-    let attrs = candidates(table)?;
-    let moved = moved_of(table, &attrs)?;
-    Ok(moved)
+    let slots = table.slots.written()?;
+    if slots.is_empty() {
+        return moved_values(table);
+    }
+    moved_by_number(table, &slots)
 }

@@ -23,7 +23,8 @@ use Rattle.corner_table.specs.declared.table.TheConstants.{LEVELS}
 use Rattle.corner_table.specs.Tables.{Lists, attr_slot, slot_at, standing_at}
 use Rattle.corner_table.specs.Histories.{AreAlike, lists_before, side_by_side}
 use Rattle.corner_table.specs.Kept.{AreSlots, IsAttrSlot, IsOwned}
-use Rattle.corner_table.specs.Moves.{AreMoved, HasMoved, HasStayed, HasValue, IsListed, Keeps, Shows, marked_of}
+use Rattle.frac_core.specs.Fraction.{Fraction}
+use Rattle.corner_table.specs.Moves.{AreMoved, HasMoved, HasOwnValue, HasStayed, HasValue, HaveOtherSlots, IsListed, IsListedOrStayed, Keeps, Shows, marked_of}
 use Rattle.corner_table.proofs.Readings.SlotFacts.{any_is}
 
 -- ---- past the end
@@ -87,17 +88,6 @@ pub record IsFound (t : Lists) (attr w : ℕ) (slot : Slot) (s : Standing) : Typ
   pub own : slot.owner ≡ AttrSlot attr
   pub stands : slice_get t.standings w ≡ Some s
 
-pub value_shown :
-    (t : Lists) (attr w : ℕ) (slot : Slot) (s : Standing) → AreSlots t → IsFound t attr w slot s
-    → HasValue t attr s.value
-value_shown t attr w slot s slots found =
-    let own : (slot_at t w).owner ≡ AttrSlot attr =
-    ap (λ (x : Slot). x.owner) (get_or_from_slice_get t.slots w slot empty-slot found.there) ∙ found.own in (
-      (own_stay t attr w slots own).0,
-      ap (λ (v : ℕ). (standing_at t v).value) found.at
-          ∙ ap (λ (x : Standing). x.value) (get_or_from_slice_get t.standings w s empty-standing found.stands),
-    )
-
 pub value_found :
     (t : Lists) (attr : ℕ) → AreSlots t → HasStay t.stays attr
     → IsFound t attr (attr_slot t attr) (slot_at t (attr_slot t attr)) (standing_at t (attr_slot t attr))
@@ -143,6 +133,54 @@ no_standing t attr w slots at none = λ f has.
     let found = value_found t attr slots has.0 in
     none-some (slice_get t.standings w) (standing_at t (attr_slot t attr)) none
     (subst (λ (v : ℕ). slice_get t.standings v ≡ Some (standing_at t (attr_slot t attr))) (sym at) found.stands)
+
+-- ---- what a slot has of its attribute
+
+pub value_there :
+    (t : Lists) (w : ℕ) (s : Standing) → AreSlots t → slice_get t.standings w ≡ Some s → HasOwnValue t w (Some s.value)
+value_there t w s slots there = λ attr own.
+    let is = own_stay t attr w slots own in (
+      is.0,
+      ap (λ (v : ℕ). (standing_at t v).value) is.1
+          ∙ ap (λ (x : Standing). x.value) (get_or_from_slice_get t.standings w s empty-standing there),
+    )
+
+pub no_value_there : (t : Lists) (w : ℕ) → AreSlots t → slice_get t.standings w ≡ None → HasOwnValue t w None
+no_value_there t w slots none = λ attr own.
+    no_standing t attr w slots (sym (own_stay t attr w slots own).1) none
+
+pub value_of_own :
+    (t : Lists) (attr w : ℕ) (slot : Slot) (f : Option Fraction) → slice_get t.slots w ≡ Some slot
+    → slot.owner ≡ AttrSlot attr → HasOwnValue t w f → Shows HasValue t attr f
+value_of_own t attr w slot f there own has =
+    has attr (ap (λ (x : Slot). x.owner) (get_or_from_slice_get t.slots w slot empty-slot there) ∙ own)
+
+-- where all slots are the same, what is an attribute's was its
+own-then :
+    (old new : Lists) (attr w : ℕ) → HaveOtherSlots old new [] → (slot_at new w).owner ≡ AttrSlot attr
+    → (slot_at old w).owner ≡ AttrSlot attr
+own-then old new attr w others own =
+    elim (others w) [
+      | inl none ↦ absurd (omega (arith, none.1))
+      | inr same ↦ ap (λ (x : Slot). x.owner) (get-same old.slots new.slots w empty-slot same) ∙ own
+    ]
+
+pub moved_there :
+    (old new : Lists) (attr w : ℕ) (was is : Option Fraction) → HaveOtherSlots old new []
+    → (slot_at new w).owner ≡ AttrSlot attr → HasOwnValue old w was → HasOwnValue new w is → (was ≡ is → ⊥)
+    → HasMoved HasValue old new attr
+moved_there old new attr w was is others own then now differ =
+    (was, is, then attr (own-then old new attr w others own), now attr own, differ)
+
+pub stayed_there :
+    (old new : Lists) (w : ℕ) (was is : Option Fraction) → HaveOtherSlots old new [] → HasOwnValue old w was
+    → HasOwnValue new w is → was ≡ is → IsListedOrStayed old new [] w
+stayed_there old new w was is others then now same = λ attr own.
+    inr (
+      was,
+      then attr (own-then old new attr w others own),
+      subst (λ (f : Option Fraction). Shows HasValue new attr f) (sym same) (now attr own),
+    )
 
 -- ---- what is listed
 
@@ -201,9 +239,9 @@ stayed-here old new attr w slots_old slots_new at own slot standing =
 -- where other slots and values stand at the listed places alone, an attribute is listed or has stayed
 pub one_or_stayed :
     (old new : Lists) (attrs slots standings : List ℕ) → AreSlots old → AreSlots new
-    → ((w : ℕ) → Contains slots w ⊎ (slice_get old.slots w ≡ slice_get new.slots w))
+    → HaveOtherSlots old new slots
     → ((w : ℕ) → Contains standings w ⊎ (slice_get old.standings w ≡ slice_get new.standings w))
-    → All (IsListed new attrs) slots → All (IsListed old attrs) slots → All (IsListed new attrs) standings
+    → All (IsListed new attrs) slots → All (IsListed old attrs) slots → All (IsListedOrStayed old new attrs) standings
     → (attr : ℕ) → Contains attrs attr ⊎ HasStayed HasValue old new attr
 one_or_stayed old new attrs slots standings slots_old slots_new at_slots at_standings now then now_too attr =
     elim (owner-is (slot_at new (attr_slot new attr)).owner attr) [
@@ -212,7 +250,7 @@ one_or_stayed old new attrs slots standings slots_old slots_new at_slots at_stan
             | inl listed ↦ inl (of_these (IsListed new attrs) slots (attr_slot new attr) now listed attr own)
             | inr slot ↦
                 elim (at_standings (attr_slot new attr)) [
-                  | inl listed ↦ inl (of_these (IsListed new attrs) standings (attr_slot new attr) now_too listed attr own)
+                  | inl listed ↦ of_these (IsListedOrStayed old new attrs) standings (attr_slot new attr) now_too listed attr own
                   | inr standing ↦
                       inr
                       (stayed-here old new attr (attr_slot new attr) slots_old slots_new refl own
@@ -313,6 +351,66 @@ all_moved old new tried out are each = record {
         | inl one ↦ are.others x one
         | inr stayed ↦ inr stayed
       ];
+}
+
+-- ---- what has moved at these places
+
+pub record AreMovedAt (old new : Lists) (out places : List ℕ) : Type 0 where
+  pub moved : All (HasMoved HasValue old new) out
+  pub stayed : All (IsListedOrStayed old new out) places
+
+-- after one place more, whose attribute may have come
+pub next_place :
+    (old new : Lists) (out more places : List ℕ) (i : ℕ) → i < length places → AreMovedAt old new out (take i places)
+    → Keeps out more → All (HasMoved HasValue old new) more → IsListedOrStayed old new more (get_or places i 0)
+    → AreMovedAt old new more (take (i + 1) places)
+next_place old new out more places i within are keeps moved here = record {
+  moved = moved;
+  stayed = subst (All (IsListedOrStayed old new more)) (sym (take_more places i 0 within))
+      (All-push (IsListedOrStayed old new more) (take i places) (get_or places i 0)
+      (λ k d inside attr own.
+      elim (are.stayed k d inside attr own) [
+        | inl one ↦ inl (keeps attr one)
+        | inr stays ↦ inr stays
+      ])
+      here);
+}
+
+own-same : (o : Owner) (a b : ℕ) → o ≡ AttrSlot a → o ≡ AttrSlot b → a ≡ b
+own-same o a b one other = cc
+
+pub next_came :
+    (old new : Lists) (out places : List ℕ) (i attr : ℕ) → i < length places → AreMovedAt old new out (take i places)
+    → (slot_at new (get_or places i 0)).owner ≡ AttrSlot attr → HasMoved HasValue old new attr
+    → AreMovedAt old new (out ++ attr ∷ []) (take (i + 1) places)
+next_came old new out places i attr within are own moves =
+    next_place old new out (out ++ attr ∷ []) places i within are (λ x has. Contains-append_left out (attr ∷ []) x has)
+    (All-push (HasMoved HasValue old new) out attr are.moved moves)
+    (λ a its.
+    inl
+    (subst (Contains (out ++ attr ∷ [])) (own-same (slot_at new (get_or places i 0)).owner attr a own its)
+    (Contains-push out attr)))
+
+pub next_kept :
+    (old new : Lists) (out places : List ℕ) (i : ℕ) → i < length places → AreMovedAt old new out (take i places)
+    → IsListedOrStayed old new [] (get_or places i 0) → AreMovedAt old new out (take (i + 1) places)
+next_kept old new out places i within are here =
+    next_place old new out out places i within are (λ x has. has) are.moved
+    (λ attr own.
+    elim (here attr own) [
+      | inl none ↦ absurd (omega (arith, none.1))
+      | inr stays ↦ inr stays
+    ])
+
+-- where the other values stand at these places alone
+pub all_there :
+    (old new : Lists) (out places : List ℕ) → AreSlots old → AreSlots new → HaveOtherSlots old new []
+    → ((w : ℕ) → Contains places w ⊎ (slice_get old.standings w ≡ slice_get new.standings w))
+    → AreMovedAt old new out places → AreMoved HasValue old new out
+all_there old new out places slots_old slots_new others at_places are = record {
+  moved = are.moved;
+  others = one_or_stayed old new out [] places slots_old slots_new others at_places (λ k d none. absurd (omega (arith, none)))
+      (λ k d none. absurd (omega (arith, none))) are.stayed;
 }
 
 -- ---- the same told of something else

@@ -1,7 +1,7 @@
 use Rattle.corner_table.specs.Moves.{marked_of}
 use Rattle.corner_table.specs.Tables.{lists_of}
 use Rattle.corner_table.proofs.Readings.MoveFacts.{all_moved}
-use Rattle.corner_table.proofs.moved.moved_attrs.Goals as goal
+use Rattle.corner_table.proofs.moved.moved_by_number.Goals as goal
 
 pub returns : goal.returns
 returns c =
