@@ -1,5 +1,5 @@
 -- Where the strongest level of a line's column is met.
-use Rattle.std.specs.Prelude.{◌≡◌, ◌≢◌, ℕ, ◌<◌, ◌≤◌, ℤ, pos, ◌*ℤ◌}
+use Rattle.std.specs.Prelude.{◌≡◌, ◌≢◌, ℕ, ◌<◌, ◌≤◌, ℤ, pos, ◌*ℤ◌, length}
 use Rattle.problem_core.specs.declared.parts.Rel.{Rel}
 use Rattle.problem_core.specs.declared.parts.Rel.TheVariants.{Eq, Le, Ge}
 use Rattle.problem_core.specs.declared.parts.Side.{Side}
@@ -8,7 +8,8 @@ use Rattle.corner_table.specs.declared.table.Slot.{Slot}
 use Rattle.corner_table.specs.Tables.{Lists, entry, slot_at}
 use Rattle.corner_table.specs.Kept.{HasCost}
 use Rattle.corner_table.specs.Reads.LevelNumbers.{HasReducedAt, IsLevelSlot, own_at, share_of}
-use Rattle.corner_table.specs.Reads.LevelNumbers.{side_share, unit_at}
+use Rattle.corner_table.specs.Reads.LevelNumbers.{reduced_at, side_share, unit_at}
+use Rattle.corner_writings.specs.declared.levels.Found.{Found}
 use Rattle.corner_writings.specs.declared.levels.LevelRead.{LevelRead}
 
 -- a side on which a line of this relation costs
@@ -44,6 +45,12 @@ IsStrongestAt t w side l = (m : ℕ) → (slot_at t m).rank < (slot_at t l).rank
 -- neither mark of the line has
 abbrev pub IsStrongestOf : Lists → ℕ → ℕ → Type 0
 IsStrongestOf t w l = (side : Side) → IsStrongestAt t w side l
+
+-- the slot is that of a level at which the mark of the line of slot w has this reduced cost, which isn't 0
+pub record IsReducedThere (t : Lists) (w : ℕ) (side : Side) (found : Found) : Type 0 where
+  pub within : found.l < length t.slots
+  pub there : HasReducedAt t w side found.l
+  pub reduced : found.reduced ≡ reduced_at t found.l w side
 
 -- the numbers are those of the level at the slot
 pub record IsLevelRead (t : Lists) (read : LevelRead) : Type 0 where

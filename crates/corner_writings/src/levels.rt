@@ -23,9 +23,10 @@ ghost use Rattle.corner_table.specs.Kept.{AreSlots, HasCost, IsKept};
 ghost use Rattle.corner_table.specs.Tables as tables;
 ghost use Rattle.corner_table.specs.Tables.{lists_of, marks_at, problem_of};
 ghost use Rattle.corner_table.specs.Views.{IsInUse, IsLevelOf, IsMarkOf, IsStronger};
-ghost use Rattle.corner_writings.specs.Fronts.{HasNoFront, IsFrontOf};
+ghost use Rattle.corner_writings.specs.Fronts.{HasNoFront, IsFoundOf, IsFrontOf};
 ghost use Rattle.corner_writings.specs.Walks as walks;
-ghost use Rattle.corner_writings.specs.Walks.{IsLevelRead};
+ghost use Rattle.corner_writings.specs.Walks.{IsLevelRead, IsReducedThere};
+ghost use Rattle.corner_writings.specs.declared.levels.Found as found_type;
 
 use corner_table::{
     LEVELS, OWN_RANK, Slot, Table, cost_share, costs, is_level, is_stay, level_of, level_slot,
@@ -266,14 +267,30 @@ pub(crate) fn front_at(table: &Table, l: u32, reduced: i64) -> Front
     }
 }
 
-// Whether the slot is that of a level at which the mark has a reduced cost.
-fn has_reduced(table: &Table, l: u32, line: u32, side: Side) -> bool
+// The slot of a level at which a mark has a reduced cost, and this cost.
+#[derive(Clone, Copy)]
+struct Found {
+    l: u32,
+    reduced: i64,
+}
+
+// The slot with the mark's reduced cost at its level, where it has one there.
+fn found_at(table: &Table, l: u32, line: u32, side: Side) -> Option<Found>
     requires kept { IsKept (lists_of table.now) }
     requires within { l < length table.now.slots.items }
     requires line { IsSlotOfLine (lists_of table.now) line }
-    ensures { (result ≡ true) ↔ HasReducedAt (lists_of table.now) line side l }
+    ensures slot { IfSome result (λ found. found.l ≡ l) }
+    ensures some { IfSome result (IsReducedThere (lists_of table.now) line side) }
+    ensures none { IfNone result (HasReducedAt (lists_of table.now) line side l → ⊥) }
 {
-    has_cost(table, l) && reduced_of(table, l, line, side) != 0
+    if !has_cost(table, l) {
+        return None;
+    }
+    let reduced = reduced_of(table, l, line, side);
+    if reduced == 0 {
+        return None;
+    }
+    Some(Found { l, reduced })
 }
 
 // Which level of a slot is the stronger: that of the lower rank.
@@ -284,27 +301,17 @@ fn rank_at(table: &Table, w: u32) -> u64
     slot_at(table, w).rank
 }
 
-// Whether the level of a slot is stronger than that of another.
-fn is_lower(table: &Table, l: u32, w: u32) -> bool
-    requires within { l < length table.now.slots.items }
-    requires other { w < length table.now.slots.items }
-    ensures { (result ≡ true)
-        ↔ ((tables.slot_at (lists_of table.now) l).rank < (tables.slot_at (lists_of table.now) w).rank) }
-{
-    rank_at(table, l) < rank_at(table, w)
-}
-
 // Whether the slot's level is stronger than the one that is found so far.
-fn is_before(table: &Table, l: u32, found: Option<u32>) -> bool
+fn is_before(table: &Table, l: u32, found: Option<Found>) -> bool
     requires within { l < length table.now.slots.items }
-    requires found { IfSome found (λ best. best < length table.now.slots.items) }
+    requires found { IfSome found (λ best. best.l < length table.now.slots.items) }
     ensures yes { result ≡ true → IfSome found (λ best.
-        (tables.slot_at (lists_of table.now) l).rank < (tables.slot_at (lists_of table.now) best).rank) }
-    ensures no { result ≡ false → (best : ℕ) × (found ≡ Some best)
-        × ((tables.slot_at (lists_of table.now) best).rank ≤ (tables.slot_at (lists_of table.now) l).rank) }
+        (tables.slot_at (lists_of table.now) l).rank < (tables.slot_at (lists_of table.now) best.l).rank) }
+    ensures no { result ≡ false → (best : found_type.Found) × (found ≡ Some best)
+        × ((tables.slot_at (lists_of table.now) best.l).rank ≤ (tables.slot_at (lists_of table.now) l).rank) }
 {
     match found {
-        Some(best) => rank_at(table, l) < rank_at(table, best),
+        Some(best) => rank_at(table, l) < rank_at(table, best.l),
         None => true,
     }
 }
@@ -320,44 +327,62 @@ pub(crate) fn ends_column(table: &Table, l: u32) -> bool
     is_level(l) || rank_at(table, l) >= OWN_RANK
 }
 
-// The strongest of them in the line's column.
-fn first_in_column(table: &Table, line: u32, side: Side) -> Option<u32>
+// The slot of the strongest level in the line's column at which the mark has a reduced cost.
+fn first_in_column(table: &Table, line: u32, side: Side) -> Option<Found>
     requires kept { IsKept (lists_of table.now) }
     requires line { IsSlotOfLine (lists_of table.now) line }
-    ensures some { IfSome result (IsFirstInColumn (lists_of table.now) line side) }
-    ensures within { IfSome result (λ l. l < length table.now.slots.items) }
+    ensures some { IfSome result (λ found. IsFirstInColumn (lists_of table.now) line side found.l) }
+    ensures there { IfSome result (IsReducedThere (lists_of table.now) line side) }
     ensures none { IfNone result (IsNoneInColumn (lists_of table.now) line side) }
 {
-    let mut found = None;
+    let mut first = None;
     for l in table.matrix.column(line) {
-        if is_before(table, *l, found) && has_reduced(table, *l, line, side) {
-            if ends_column(table, *l) {
-                return Some(*l);
+        if is_before(table, *l, first) {
+            if let Some(found) = found_at(table, *l, line, side) {
+                if ends_column(table, *l) {
+                    return Some(found);
+                }
+                first = Some(found);
             }
-            found = Some(*l);
         }
     }
-    found
+    first
 }
 
-// The slot of the strongest level at which the mark has a reduced cost.
-fn first_slot(table: &Table, line: u32, side: Side) -> Option<u32>
+// The slot of the strongest level at which the mark has a reduced cost. The line's own level may be that
+// only where it is stronger than what its column has.
+fn first_slot(table: &Table, line: u32, side: Side) -> Option<Found>
     requires kept { IsKept (lists_of table.now) }
     requires line { IsSlotOfLine (lists_of table.now) line }
-    ensures some { IfSome result (IsFirstSlot (lists_of table.now) line side) }
-    ensures within { IfSome result (λ l. l < length table.now.slots.items) }
+    ensures some { IfSome result (λ found. IsFirstSlot (lists_of table.now) line side found.l) }
+    ensures there { IfSome result (IsReducedThere (lists_of table.now) line side) }
     ensures none { IfNone result ((l : ℕ) → HasReducedAt (lists_of table.now) line side l → ⊥) }
 {
     let home = slot_at(table, line).home;
     let first = first_in_column(table, line, side);
-    if has_reduced(table, home, line, side) {
-        match first {
-            Some(l) if is_lower(table, l, home) => Some(l),
-            _ => Some(home),
+    if is_before(table, home, first) {
+        if let Some(found) = found_at(table, home, line, side) {
+            return Some(found);
         }
-    } else {
-        first
     }
+    first
+}
+
+// The front of a mark of an inside line, whose marks cost at its own level alone.
+fn own_front(table: &Table, mark: Mark, line: u32) -> Option<Front>
+    requires kept { IsKept (lists_of table.now) }
+    requires mark { IsMarkOf (problem_of (lists_of table.now)) mark }
+    requires line { line ≡ tables.line_slot (lists_of table.now) mark.row }
+    requires inside { (side : side_type.Side)
+        × ((tables.standing_at (lists_of table.now) line).side ≡ Some side) }
+    ensures { IsFoundOf (problem_of (lists_of table.now)) (marks_at (lists_of table.now)) mark result }
+{
+    let home = slot_at(table, line).home;
+    let reduced = reduced_of(table, home, line, mark.side);
+    if reduced == 0 {
+        return None;
+    }
+    Some(front_at(table, home, reduced))
 }
 
 /// The front of a mark, which an inside one has not.
@@ -370,8 +395,11 @@ pub fn front_of(table: &Table, mark: Mark) -> Option<Front>
         (HasNoFront (problem_of (lists_of table.now)) (marks_at (lists_of table.now)) mark) }
 {
     let line = line_slot(table, mark.row);
-    let l = first_slot(table, line, mark.side)?;
-    Some(front_at(table, l, reduced_of(table, l, line, mark.side)))
+    if side_at(table, line).is_some() {
+        return own_front(table, mark, line);
+    }
+    let first = first_slot(table, line, mark.side)?;
+    Some(front_at(table, first.l, first.reduced))
 }
 
 /// Whether the first level is stronger.

@@ -122,10 +122,10 @@ none_at_all t w side none f l h = elim (cases_eq (slot_at t w).home l) [
   | inr ne ↦ f l (in_column t l w side ne h) h
 ]
 
-pub column_before_home : (t : Lists) (w : ℕ) (side : Side) (l : ℕ) → (slot_at t l).rank < (slot_at t (slot_at t w).home).rank → IsFirstInColumn t w side l → IsFirstSlot t w side l
-column_before_home t w side l lt f = record {
+pub column_before_home : (t : Lists) (w : ℕ) (side : Side) (l : ℕ) → (slot_at t l).rank ≤ (slot_at t (slot_at t w).home).rank → IsFirstInColumn t w side l → IsFirstSlot t w side l
+column_before_home t w side l le f = record {
   there = f.there;
-  first = λ m less h. f.first m less (in_column t m w side (λ e. let same : (slot_at t (slot_at t w).home).rank ≡ (slot_at t m).rank = ap (λ (n : ℕ). (slot_at t n).rank) e in omega (arith, same, lt, less)) h) h;
+  first = λ m less h. f.first m less (in_column t m w side (λ e. let same : (slot_at t (slot_at t w).home).rank ≡ (slot_at t m).rank = ap (λ (n : ℕ). (slot_at t n).rank) e in omega (arith, same, le, less)) h) h;
 }
 
 pub home_before_column : (t : Lists) (w : ℕ) (side : Side) (l : ℕ) → (slot_at t (slot_at t w).home).rank ≤ (slot_at t l).rank → HasReducedAt t w side (slot_at t w).home → IsFirstInColumn t w side l → IsFirstSlot t w side (slot_at t w).home

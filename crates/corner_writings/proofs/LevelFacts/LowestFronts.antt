@@ -1,7 +1,8 @@
 -- The fronts of both marks of a line, at the lowest slot of a level that stands in its column.
-use Rattle.std.proofs.Common.{◌≡◌, ◌≢◌, ◌∙◌, ◌⊎◌, ℕ, ◌<◌, ◌≤◌, ◌*ℤ◌, List, ℤ, length, slice_index_or, refl, sym, ap, ap₂, subst, arith, inl, inr, pos, AllPairs, Contains}
+use Rattle.std.proofs.Common.{◌≡◌, ◌≢◌, ◌∙◌, ◌⊎◌, ℕ, ◌<◌, ◌≤◌, ◌*ℤ◌, List, ℤ, length, slice_index_or, refl, sym, ap, ap₂, subst, arith, inl, inr, pos, AllPairs, Contains, Some}
 use Rattle.std.proofs.lemmas.Bool.{cases_eq, cases_lt}
 use borrow.Author.Differences.{ints}
+use Rattle.problem_core.specs.declared.parts.Mark.{Mark}
 use Rattle.problem_core.specs.declared.parts.Rel.{Rel}
 use Rattle.problem_core.specs.declared.parts.Rel.TheVariants.{Eq, Le, Ge}
 use Rattle.problem_core.specs.declared.parts.Side.{Side}
@@ -9,15 +10,17 @@ use Rattle.problem_core.specs.declared.parts.Side.TheVariants.{Under, Over}
 use Rattle.corner_lines.specs.LineEquations.{sign_of}
 use Rattle.corner_table.specs.declared.table.Slot.{Slot}
 use Rattle.corner_table.specs.declared.table.TheConstants.{LEVELS, OWN_RANK}
-use Rattle.corner_table.specs.Tables.{Lists, entry, slot_at}
+use Rattle.corner_table.specs.Tables.{Lists, entry, line_slot, problem_of, slot_at, standing_at}
 use Rattle.corner_table.specs.Kept.{HasCost, IsKept}
+use Rattle.corner_table.specs.Views.{IsMarkOf}
 use Rattle.corner_table.specs.Reads.LevelNumbers.{HasReducedAt, IsFirstSlot, IsSlotOfLine, own_at, own_cost, reduced_at, share_of, side_share, times_at, unit_at}
 use Rattle.corner_writings.specs.Fitting.{counted}
 use Rattle.corner_writings.specs.declared.levels.LevelRead.{LevelRead}
 use Rattle.corner_writings.specs.Walks.{IsLevelRead, IsLowestCost, IsNextCost, IsNoneAbove, IsNoneBelow, IsStrongestAt, IsStrongestOf, cost_by, dear_side}
+use Rattle.corner_table.proofs.Readings.ReadFacts.{mark_named}
 use Rattle.corner_writings.proofs.LevelFacts.ColumnFronts.{lower_slot}
 use Rattle.corner_writings.proofs.LevelFacts.LevelFrontFacts.{before_in, in_column, none_in}
-use Rattle.corner_writings.proofs.LevelFacts.LevelReadFacts.{home_level, reduced_elsewhere}
+use Rattle.corner_writings.proofs.LevelFacts.LevelReadFacts.{home_level, named_line_slot, nothing_elsewhere, reduced_elsewhere}
 use Rattle.corner_writings.proofs.LevelFacts.LevelUseFacts.{cost_slot}
 
 -- ---- the lowest slot
@@ -63,6 +66,24 @@ lowest_is_strongest t w l kept lowest ends side m less h =
 
 pub strongest_is_first : (t : Lists) (w l : ℕ) (side : Side) → HasCost t l → IsStrongestAt t w side l → reduced_at t l w side ≢ pos 0 → IsFirstSlot t w side l
 strongest_is_first t w l side cost none ne = record { there = (cost, ne); first = λ m less h. none m less h }
+
+-- ---- at an inside line's own level
+
+pub own_is_first : (t : Lists) (w home : ℕ) (side inside : Side) → (standing_at t w).side ≡ Some inside → (slot_at t w).home ≡ home → HasCost t home → reduced_at t home w side ≢ pos 0 → IsFirstSlot t w side home
+own_is_first t w home side inside stands is cost ne = record {
+  there = (cost, ne);
+  first = λ m less h. h.1 (nothing_elsewhere t m w inside stands (λ e. let same : (slot_at t home).rank ≡ (slot_at t m).rank = ap (λ (n : ℕ). (slot_at t n).rank) (sym is ∙ e) in omega (arith, same, less)) side);
+}
+
+pub own_alone : (t : Lists) (w home : ℕ) (side inside : Side) → (standing_at t w).side ≡ Some inside → (slot_at t w).home ≡ home → reduced_at t home w side ≡ pos 0 → (m : ℕ) → HasReducedAt t w side m → ⊥
+own_alone t w home side inside stands is nothing m h = elim (cases_eq (slot_at t w).home m) [
+  | inl e ↦ h.1 (subst (λ (n : ℕ). reduced_at t n w side ≡ pos 0) (sym is ∙ e) nothing)
+  | inr ne ↦ h.1 (nothing_elsewhere t m w inside stands ne side)
+]
+
+-- the slot of a mark's line
+pub marks_slot : (t : Lists) (m : Mark) (w : ℕ) → IsMarkOf (problem_of t) m → w ≡ line_slot t m.row → IsSlotOfLine t w
+marks_slot t m w mark is = subst (IsSlotOfLine t) (sym is) (named_line_slot t m.row (mark_named (problem_of t) m mark))
 
 -- ---- beyond the line's own level
 
