@@ -7,4 +7,5 @@ pub mod Attributes
 pub mod Additions
 pub mod Removals
 pub mod Safety
+pub mod AstrayStays
 pub mod LowMarks

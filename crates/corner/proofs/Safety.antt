@@ -1,5 +1,5 @@
 -- Lines that are safe to turn stay so where no row changes and no outside line comes inside.
-use Rattle.std.proofs.Common.{◌≡◌, ◌≢◌, ◌∙◌, ℕ, ◌<◌, Bool, true, false, cond, nat_eq, List, [], length, slice_index_or, refl, sym, ap, ap₂, subst, arith, inl, inr, ℤ, pos, ◌+ℤ◌, ◌*ℤ◌, ◌<ℤ◌, Contains, None, Some}
+use Rattle.std.proofs.Common.{◌≡◌, ◌≢◌, ◌∙◌, ℕ, Bool, true, false, cond, nat_eq, List, [], slice_index_or, refl, sym, ap, ap₂, subst, arith, inl, inr, ℤ, pos, ◌+ℤ◌, ◌*ℤ◌, ◌<ℤ◌, Contains, None, Some}
 use Rattle.std.specs.declared.option.Option.{Option}
 use Rattle.std.proofs.lemmas.List.{get_or-set_other}
 use Rattle.frac_core.specs.Fraction.{Fraction}
@@ -24,9 +24,10 @@ use Rattle.corner_table.proofs.Readings.KeptFacts.{row_kept}
 use Rattle.corner_writings.specs.Growing.{IsRowDear, growing_side}
 use Rattle.corner_writings.proofs.Readings.MovedFacts.{none_some}
 use Rattle.corner.specs.declared.safe.Safe.{Safe}
-use Rattle.corner.specs.Safe.{AreSafe, IsNoted, listed_at}
+use Rattle.corner.specs.declared.safe.Sides.{Sides}
+use Rattle.corner.specs.Safe.{AreSafe, IsNoted, ListsNone, listed_at}
 use Rattle.corner.specs.Shifts.Shifting.{IsShifted, with_shifted}
-use Rattle.corner.specs.Shifts.Stood.{AreFirstStood, with_moved}
+use Rattle.corner.specs.Shifts.Stood.{AreFirstStood}
 
 -- the lists with other rows, stays, standings and numbers
 abbrev pub with_others : List Row → List Stay → List Standing → List ℕ → List ℕ → Lists → Lists
@@ -101,38 +102,34 @@ turned_safe t u line side swap s kept turn same safe =
     (λ c none. ap (λ (y : Standing). y.side) (get_or-set_other t.standings line c x (record { side = None; value = zero_fraction }) (λ e. none_some (standing_at t c).side swap.leave.side none (ap (λ (k : ℕ). (standing_at t k).side) e ∙ turn.inside))) ∙ none)
     safe)
 
--- where the lists are the same
-pub same_safe : (t u : Lists) (s : Safe) → u ≡ t → AreSafe t s → AreSafe u s
-same_safe t u s same safe = subst (λ (x : Lists). AreSafe x s) (sym same) safe
-
 -- ---- what is listed
 
 no-element : (w : ℕ) → Contains [] w → ⊥
 no-element w i = let within = i.1 in omega (arith, within)
 
 -- no line is
-pub none_safe : (t : Lists) (s : Safe) → s ≡ record { under = []; over = [] } → AreSafe t s
-none_safe t s none = subst (AreSafe t) (sym none) (none-listed t)
-  where
-    none-listed : (t : Lists) → AreSafe t (record { under = []; over = [] })
-    none-listed t Under w has = absurd (no-element w has)
-    none-listed t Over w has = absurd (no-element w has)
+none-listed : (s : Sides) → ListsNone s → (side : Side) → listed_at s side ≡ []
+none-listed s none Under = none.0
+none-listed s none Over = none.1
+
+pub none_safe : (t : Lists) (s : Safe) → ListsNone s.dear → AreSafe t s
+none_safe t s none side w has = absurd (no-element w (subst (λ (l : List ℕ). Contains l w) (none-listed s.dear none side) has))
 
 -- one line more
-pub noted_safe : (t : Lists) (line : ℕ) (side : Side) (old new : Safe) → IsRowDear t line side 0 (row_at t line) → IsNoted line side old new → AreSafe t old → AreSafe t new
+pub noted_safe : (t : Lists) (line : ℕ) (side : Side) (old new : Safe) → IsRowDear t line side 0 (row_at t line) → IsNoted line side old.dear new.dear → AreSafe t old → AreSafe t new
 noted_safe t line side old new dear noted safe d w has = elim (noted d w has) [
   | inl was ↦ safe d w was
   | inr (e, f) ↦ subst (λ (k : ℕ). IsRowDear t k d 0 (row_at t k)) (sym f) (subst (λ (k : Side). IsRowDear t line k 0 (row_at t line)) (sym e) dear)
 ]
 
-pub noted_under : (line : ℕ) (old : Safe) (under : List ℕ) → IsListed line old.under under → IsNoted line Under old (record { under = under; over = old.over })
+pub noted_under : (line : ℕ) (old : Sides) (under : List ℕ) → IsListed line old.under under → IsNoted line Under old (record { under = under; over = old.over })
 noted_under line old under h Under w has = elim (h.others w has) [
   | inl was ↦ inl was
   | inr e ↦ inr (refl, e)
 ]
 noted_under line old under h Over w has = inl has
 
-pub noted_over : (line : ℕ) (old : Safe) (over : List ℕ) → IsListed line old.over over → IsNoted line Over old (record { under = old.under; over = over })
+pub noted_over : (line : ℕ) (old : Sides) (over : List ℕ) → IsListed line old.over over → IsNoted line Over old (record { under = old.under; over = over })
 noted_over line old over h Under w has = inl has
 noted_over line old over h Over w has = elim (h.others w has) [
   | inl was ↦ inl was

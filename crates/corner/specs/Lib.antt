@@ -5,4 +5,6 @@ pub mod Shifts
 pub mod Removals
 pub mod Settled
 pub mod Safe
+pub mod Astray
+pub mod Known
 pub mod Lows

@@ -35,7 +35,8 @@ ghost use Rattle.corner.specs.Changes.{IsRewound};
 ghost use Rattle.corner.specs.Changes.{IsUnfitStop, scene_of};
 ghost use Rattle.corner.specs.Lows.{AreNotLow, IsLowMark};
 ghost use Rattle.corner.specs.Settled.{IsSettledAt, IsSettledBy};
-ghost use Rattle.corner.specs.Safe.{AreSafe};
+ghost use Rattle.corner.specs.Astray.{NoneGoesAstray};
+ghost use Rattle.corner.specs.Known.{AreKnown};
 ghost use Rattle.corner_table.specs.declared.table.TheConstants.{LEVELS};
 ghost use Rattle.corner_laws.specs.Lifts.{with_rows};
 ghost use Rattle.corner_lines.specs.Joins.{with_attr};
@@ -55,12 +56,11 @@ ghost use Rattle.corner_table.specs.Invariants.{IsConsistent, IsEarlier, names_o
 ghost use Rattle.corner_table.specs.Kept.{HasSlotsLeft};
 
 use crate::fronting::front_stays;
+use crate::known::{Known, forget_known, nothing_known, shift_known, stand_known};
 use crate::leaving::dropping::{drop_line, drop_stay, list_left};
 use crate::leaving::{Leaver, Left, leaver_of, left_level};
 use crate::lows::low_mark;
-use crate::safe::{Safe, clear_safe, is_required, is_safe, no_safe, note};
-use crate::shifting::shift_row;
-use crate::standing::stand_stays;
+use crate::safe::{clear_safe, is_required, is_safe, note};
 use cert_core::RunStop;
 use corner_exchange::{exchange_of, put_exchange, put_turn, put_unlisted, turn_of, turn_unlisted};
 use corner_joins::{join_all, push_attr};
@@ -85,7 +85,7 @@ use std::marker::Model;
 pub struct Corner {
     table: Table,
     listed: Listed,
-    safe: Safe,
+    known: Known,
 }
 
 // Takes back what was done since the newest mark, at which no line is listed.
@@ -211,6 +211,7 @@ fn turn_settled(
     ensures before { lists_before table.new ≡ lists_before table.old }
     ensures problem { OnOk result (problem_of (lists_of table.new) ≡ problem_of (lists_of table.old)) }
     ensures marks { OnOk result (AreMarksTurned (lists_of table.old) line side (lists_of table.new)) }
+    ensures stays { OnOk result (NoneGoesAstray (lists_of table.old) (lists_of table.new)) }
     ensures stop { IfErr result (IsTurnStop (lists_of table.old) line side) }
     ensures same { IfErr result (IsAsBefore (view_of table.old listed.old) (view_of table.new listed.new)) }
 {
@@ -227,7 +228,7 @@ fn turn_settled(
 fn turn_stay(
     table: &mut Table,
     listed: &mut Listed,
-    safe: &mut Safe,
+    known: &mut Known,
     line: u32,
     side: Side,
 ) -> Result<(), TableStop>
@@ -235,21 +236,54 @@ fn turn_stay(
     requires marked { 0 < length table.old.rows.before }
     requires turn { CanTurnTo (lists_of table.old) line side }
     requires settled { IsSettledAt (lists_of table.old) line side }
-    requires safe { AreSafe (lists_of table.old) safe.old }
+    requires known { AreKnown (lists_of table.old) known.old }
     requires stay { LEVELS ≤ (tables.slot_at (lists_of table.old) line).home }
     ensures consistent { IsConsistent table.new listed.new }
     ensures before { lists_before table.new ≡ lists_before table.old }
     ensures problem { OnOk result (problem_of (lists_of table.new) ≡ problem_of (lists_of table.old)) }
     ensures marks { OnOk result (AreMarksTurned (lists_of table.old) line side (lists_of table.new)) }
-    ensures safe { AreSafe (lists_of table.new) safe.new }
+    ensures known { AreKnown (lists_of table.new) known.new }
     ensures stop { IfErr result (IsTurnStop (lists_of table.old) line side) }
     ensures same { IfErr result (IsAsBefore (view_of table.old listed.old) (view_of table.new listed.new)) }
 {
     match turn_unlisted(table, line, side, None) {
         Ok(()) => Ok(()),
         Err(OutOfMemory) => {
-            clear_safe(safe);
+            forget_known(known);
             Err(rewound(table, listed))
+        }
+    }
+}
+
+// Takes a row's other mark inside where no column is negative after it.
+fn turn_row(
+    table: &mut Table,
+    listed: &mut Listed,
+    known: &mut Known,
+    line: u32,
+    side: Side,
+) -> Result<(), TableStop>
+    requires consistent { IsConsistent table.old listed.old }
+    requires marked { 0 < length table.old.rows.before }
+    requires turn { CanTurnTo (lists_of table.old) line side }
+    requires settled { IsSettledAt (lists_of table.old) line side }
+    requires known { AreKnown (lists_of table.old) known.old }
+    ensures consistent { IsConsistent table.new listed.new }
+    ensures before { lists_before table.new ≡ lists_before table.old }
+    ensures problem { OnOk result (problem_of (lists_of table.new) ≡ problem_of (lists_of table.old)) }
+    ensures marks { OnOk result (AreMarksTurned (lists_of table.old) line side (lists_of table.new)) }
+    ensures known { AreKnown (lists_of table.new) known.new }
+    ensures stop { IfErr result (IsTurnStop (lists_of table.old) line side) }
+    ensures same { IfErr result (IsAsBefore (view_of table.old listed.old) (view_of table.new listed.new)) }
+{
+    match turn_settled(table, listed, line, side) {
+        Ok(()) => {
+            clear_safe(&mut known.safe);
+            Ok(())
+        }
+        Err(stop) => {
+            forget_known(known);
+            Err(stop)
         }
     }
 }
@@ -259,7 +293,7 @@ fn turn_stay(
 fn turn_safe(
     table: &mut Table,
     listed: &mut Listed,
-    safe: &mut Safe,
+    known: &mut Known,
     line: u32,
     side: Side,
 ) -> Result<(), TableStop>
@@ -267,21 +301,20 @@ fn turn_safe(
     requires marked { 0 < length table.old.rows.before }
     requires turn { CanTurnTo (lists_of table.old) line side }
     requires settled { IsSettledAt (lists_of table.old) line side }
-    requires safe { AreSafe (lists_of table.old) safe.old }
+    requires known { AreKnown (lists_of table.old) known.old }
     ensures consistent { IsConsistent table.new listed.new }
     ensures before { lists_before table.new ≡ lists_before table.old }
     ensures problem { OnOk result (problem_of (lists_of table.new) ≡ problem_of (lists_of table.old)) }
     ensures marks { OnOk result (AreMarksTurned (lists_of table.old) line side (lists_of table.new)) }
-    ensures safe { AreSafe (lists_of table.new) safe.new }
+    ensures known { AreKnown (lists_of table.new) known.new }
     ensures stop { IfErr result (IsTurnStop (lists_of table.old) line side) }
     ensures same { IfErr result (IsAsBefore (view_of table.old listed.old) (view_of table.new listed.new)) }
 {
     if is_level(slot_at(table, line).home) {
-        clear_safe(safe);
-        return turn_settled(table, listed, line, side);
+        return turn_row(table, listed, known, line, side);
     }
-    note(table, safe, line, other(side));
-    turn_stay(table, listed, safe, line, side)
+    note(table, &mut known.safe, line, other(side));
+    turn_stay(table, listed, known, line, side)
 }
 
 // Takes a row out of whose level this is left.
@@ -431,13 +464,13 @@ impl Model for Corner {
     ghost use Rattle.corner.specs.Views.{CornerView};
     ghost use Rattle.corner_table.specs.Tables.{lists_of};
     ghost use Rattle.corner_table.specs.Invariants.{IsConsistent, view_of};
-    ghost use Rattle.corner.specs.Safe.{AreSafe};
+    ghost use Rattle.corner.specs.Known.{AreKnown};
 
     ghost Value = { CornerView };
 
     ghost view = { λ c. view_of c.table c.listed };
 
-    ghost invariant = { λ c. IsConsistent c.table c.listed × AreSafe (lists_of c.table) c.safe };
+    ghost invariant = { λ c. IsConsistent c.table c.listed × AreKnown (lists_of c.table) c.known };
 }
 
 impl Corner {
@@ -453,11 +486,11 @@ impl Corner {
     {
         let table = new_table(alloc)?;
         let listed = Listed::new(alloc);
-        let safe = no_safe(alloc);
+        let known = nothing_known(alloc);
         Ok(Corner {
             table,
             listed,
-            safe,
+            known,
         })
     }
 
@@ -569,8 +602,8 @@ impl Corner {
         requires level { IsLevelOf self.now.problem level }
         ensures { result ≡ true → AreGrowersDear self.now.problem self.now.marks mark level }
     {
-        if is_required(level) && is_safe(&self.table, &self.safe, mark) {
-            return true;
+        if is_required(level) {
+            return is_safe(&self.table, &self.known.safe, mark);
         }
         are_growers_dear(&self.table, mark, level)
     }
@@ -726,7 +759,7 @@ impl Corner {
             (exchanged (record { enter = enter; leave = leave }) self.old.marks)) }
         ensures same { IfErr result (IsAsBefore self.old self.new) }
     {
-        clear_safe(&mut self.safe);
+        forget_known(&mut self.known);
         let line = line_slot(&self.table, enter.row);
         if are_of_line(enter, leave) {
             return turn_line(&mut self.table, &mut self.listed, line, enter.side);
@@ -764,12 +797,12 @@ impl Corner {
             return turn_safe(
                 &mut self.table,
                 &mut self.listed,
-                &mut self.safe,
+                &mut self.known,
                 line,
                 enter.side,
             );
         }
-        clear_safe(&mut self.safe);
+        forget_known(&mut self.known);
         let pair = Pair {
             enter: line,
             side: enter.side,
@@ -791,7 +824,7 @@ impl Corner {
         ensures candidates { IfOk result (λ _. self.new.candidates ≡ self.old.candidates) }
         ensures same { OnErr result (IsRewound self.old self.new) }
     {
-        clear_safe(&mut self.safe);
+        forget_known(&mut self.known);
         match join_attr(&mut self.table, &mut self.listed, attr, target) {
             Ok(()) => Ok(()),
             Err(OutOfMemory) => {
@@ -819,7 +852,7 @@ impl Corner {
         ensures stop { IfErr result (IsAddStop self.old rows.now) }
         ensures same { OnErr result (IsRewound self.old self.new) }
     {
-        clear_safe(&mut self.safe);
+        forget_known(&mut self.known);
         match join_rows(&mut self.table, &mut self.listed, rows) {
             Ok(()) => Ok(()),
             Err(stop) => {
@@ -845,10 +878,10 @@ impl Corner {
             (IsUnfitStop (with_constant id to self.old.problem) self.old.marks) }
         ensures same { OnErr result (IsRewound self.old self.new) }
     {
-        match shift_row(&mut self.table, id, to) {
+        match shift_known(&mut self.table, &mut self.known, id, to) {
             Ok(()) => Ok(()),
             Err(stop) => {
-                clear_safe(&mut self.safe);
+                forget_known(&mut self.known);
                 take_back(&mut self.table, &mut self.listed);
                 Err(stop)
             }
@@ -869,7 +902,7 @@ impl Corner {
             (without_marks (id ∷ []) self.old.marks)) }
         ensures same { IfErr result (IsAsBefore self.old self.new) }
     {
-        clear_safe(&mut self.safe);
+        forget_known(&mut self.known);
         let leaver = leaver_of(&self.table, id);
         take_row(&mut self.table, &mut self.listed, leaver)
     }
@@ -884,7 +917,7 @@ impl Corner {
         ensures before { self.new.before ≡ self.old.before }
         ensures same { OnErr result (IsRewound self.old self.new) }
     {
-        clear_safe(&mut self.safe);
+        forget_known(&mut self.known);
         match take_attr(&mut self.table, &mut self.listed, attr) {
             Ok(()) => Ok(()),
             Err(OutOfMemory) => {
@@ -904,10 +937,10 @@ impl Corner {
         ensures candidates { IfOk result (λ _. self.new.candidates ≡ self.old.candidates) }
         ensures same { OnErr result (IsRewound self.old self.new) }
     {
-        match stand_stays(&mut self.table) {
+        match stand_known(&mut self.table, &mut self.known) {
             Ok(()) => Ok(()),
             Err(OutOfMemory) => {
-                clear_safe(&mut self.safe);
+                forget_known(&mut self.known);
                 take_back(&mut self.table, &mut self.listed);
                 Err(OutOfMemory)
             }
@@ -926,7 +959,7 @@ impl Corner {
         ensures before { self.new.before ≡ self.old.before }
         ensures same { OnErr result (IsRewound self.old self.new) }
     {
-        clear_safe(&mut self.safe);
+        forget_known(&mut self.known);
         match put_front(&mut self.table, &mut self.listed, attrs) {
             Ok(()) => Ok(()),
             Err(OutOfMemory) => {
@@ -953,7 +986,7 @@ impl Corner {
         ensures scene { self.old.before ≡ scene_of self.new ∷ self.new.before }
         ensures candidates { self.new.candidates ≡ [] }
     {
-        clear_safe(&mut self.safe);
+        forget_known(&mut self.known);
         self.listed.clear();
         back(&mut self.table);
     }
@@ -963,7 +996,7 @@ impl Corner {
         requires { 0 < length self.old.before }
         ensures { IsRewound self.old self.new }
     {
-        clear_safe(&mut self.safe);
+        forget_known(&mut self.known);
         take_back(&mut self.table, &mut self.listed);
     }
 

@@ -49,12 +49,15 @@
 //! next corner, `corner_joins` to that of a larger problem, and `corner_packing` takes slots of nothing out.
 //! To read: `shifting` goes to that with another constant, `standing` to that with other targets, `fronting`
 //! to that with another order of stays, `leaving`, with `leaving::freeing` and `leaving::dropping`, to that
-//! of a smaller problem; `safe` lists the lines that are known to be safe to turn; `lows` finds a line's mark
-//! with a negative value; and `corner` is what callers use.
+//! of a smaller problem; `known` keeps what need not be looked up again: `safe` the lines that are known to
+//! be safe to turn, `astray` the stays that may not stand at their targets; `lows` finds a line's mark with a
+//! negative value; and `corner` is what callers use.
 #![tactic(auto)]
 
+mod astray;
 mod corner;
 mod fronting;
+mod known;
 mod leaving;
 mod lows;
 mod safe;

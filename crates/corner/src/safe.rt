@@ -1,4 +1,4 @@
-// The lines that are known to be safe to turn: where their inside mark grows, the required rows cost.
+// Which lines are safe to turn: where their inside mark grows, the required rows cost.
 ghost use Rattle.std.specs.Prelude.{◌≡◌, ◌↔◌, ◌<◌, length, true, Contains, OnOk};
 ghost use Rattle.problem_core.specs.Corners as corners;
 ghost use Rattle.problem_core.specs.Corners.{IsIn};
@@ -7,7 +7,7 @@ ghost use Rattle.problem_core.specs.declared.parts.Level.TheVariants.{Priority a
 ghost use Rattle.corner_table.specs.Kept.{IsKept};
 ghost use Rattle.corner_table.specs.Tables.{Lists, lists_of, marks_at, problem_of, row_at};
 ghost use Rattle.corner_writings.specs.Growing.{AreGrowersDear, IsRowDear};
-ghost use Rattle.corner.specs.Safe.{AreSafe, IsNoted, listed_at};
+ghost use Rattle.corner.specs.Safe.{AreSafe, IsNoted, ListsNone, listed_at};
 
 use corner_table::{Listed, Table, level_slot, line_slot};
 use corner_writings::is_row_dear;
@@ -15,12 +15,30 @@ use frac_core::OutOfMemory;
 use problem_core::{Level, Mark, REQUIRED, Side};
 use std::alloc::Global;
 
-/// The slots of lines whose inside mark, of the one side or the other, grows with marks of other lines alone
-/// that cost at the required rows' level. Not all of these are listed.
+/// The slots of lines that are listed with the one side or the other.
 #[derive(Drop)]
-pub(crate) struct Safe {
+pub(crate) struct Sides {
     under: Listed,
     over: Listed,
+}
+
+/// The lines that were looked at from a side, and of these the dear ones: their inside mark grows with marks
+/// of other lines alone that cost at the required rows' level. Nothing is proved of `seen`, since it says no
+/// more than that another look would find the same.
+#[derive(Drop)]
+pub(crate) struct Safe {
+    dear: Sides,
+    seen: Sides,
+}
+
+// No line with either side.
+fn no_sides(alloc: Global) -> Sides
+    ensures { ListsNone result }
+{
+    Sides {
+        under: Listed::new(alloc),
+        over: Listed::new(alloc),
+    }
 }
 
 /// No line.
@@ -28,36 +46,44 @@ pub(crate) fn no_safe(alloc: Global) -> Safe
     ensures { (t : Lists) → AreSafe t result }
 {
     Safe {
-        under: Listed::new(alloc),
-        over: Listed::new(alloc),
+        dear: no_sides(alloc),
+        seen: no_sides(alloc),
     }
+}
+
+// Takes all lines off.
+fn clear_sides(sides: &mut Sides)
+    ensures { ListsNone sides.new }
+{
+    sides.under.clear();
+    sides.over.clear();
 }
 
 /// Takes all lines off.
 pub(crate) fn clear_safe(safe: &mut Safe)
     ensures { (t : Lists) → AreSafe t safe.new }
 {
-    safe.under.clear();
-    safe.over.clear();
+    clear_sides(&mut safe.dear);
+    clear_sides(&mut safe.seen);
 }
 
 // Whether the line is listed with this side.
-fn has(safe: &Safe, line: u32, side: Side) -> bool
-    ensures { result ≡ true → Contains (listed_at safe.now side) line }
+fn has(sides: &Sides, line: u32, side: Side) -> bool
+    ensures { result ≡ true → Contains (listed_at sides.now side) line }
 {
     match side {
-        Side::Under => safe.under.has(line),
-        Side::Over => safe.over.has(line),
+        Side::Under => sides.under.has(line),
+        Side::Over => sides.over.has(line),
     }
 }
 
 // Lists the line with this side.
-fn push(safe: &mut Safe, line: u32, side: Side) -> Result<(), OutOfMemory>
-    ensures { OnOk result (IsNoted line side safe.old safe.new) }
+fn push(sides: &mut Sides, line: u32, side: Side) -> Result<(), OutOfMemory>
+    ensures { OnOk result (IsNoted line side sides.old sides.new) }
 {
     match side {
-        Side::Under => safe.under.push(line),
-        Side::Over => safe.over.push(line),
+        Side::Under => sides.under.push(line),
+        Side::Over => sides.over.push(line),
     }
 }
 
@@ -76,17 +102,32 @@ fn is_dear(table: &Table, line: u32, side: Side) -> bool
     )
 }
 
-/// Lists the line if it is safe to turn from this side. Where memory is wanting no line is listed.
+// Looks at the line from this side, and lists it.
+fn look(table: &Table, safe: &mut Safe, line: u32, side: Side) -> Result<(), OutOfMemory>
+    requires kept { IsKept (lists_of table.now) }
+    requires within { line < length table.now.slots.items }
+    requires safe { AreSafe (lists_of table.now) safe.old }
+    ensures { OnOk result (AreSafe (lists_of table.now) safe.new) }
+{
+    push(&mut safe.seen, line, side)?;
+    if !is_dear(table, line, side) {
+        return Ok(());
+    }
+    push(&mut safe.dear, line, side)
+}
+
+/// Looks whether the line is safe to turn from this side, unless it was looked at. Where memory is wanting no
+/// line is listed.
 pub(crate) fn note(table: &Table, safe: &mut Safe, line: u32, side: Side)
     requires kept { IsKept (lists_of table.now) }
     requires within { line < length table.now.slots.items }
     requires safe { AreSafe (lists_of table.now) safe.old }
     ensures { AreSafe (lists_of table.now) safe.new }
 {
-    if has(safe, line, side) || !is_dear(table, line, side) {
+    if has(&safe.seen, line, side) {
         return;
     }
-    if push(safe, line, side).is_err() {
+    if look(table, safe, line, side).is_err() {
         clear_safe(safe);
     }
 }
@@ -98,8 +139,22 @@ pub(crate) fn is_required(level: Level) -> bool
     level == Level::Priority(REQUIRED)
 }
 
-/// Whether the inside mark is known to grow with marks of other lines alone that cost at the required rows'
-/// level.
+// Whether the line is safe to turn from this side. One that was looked at isn't looked at again.
+fn is_line_safe(table: &Table, safe: &Safe, line: u32, side: Side) -> bool
+    requires kept { IsKept (lists_of table.now) }
+    requires within { line < length table.now.slots.items }
+    requires safe { AreSafe (lists_of table.now) safe.now }
+    ensures { result ≡ true
+        → IsRowDear (lists_of table.now) line side 0 (row_at (lists_of table.now) line) }
+{
+    if has(&safe.seen, line, side) {
+        has(&safe.dear, line, side)
+    } else {
+        is_dear(table, line, side)
+    }
+}
+
+/// Whether the inside mark grows with marks of other lines alone that cost at the required rows' level.
 pub(crate) fn is_safe(table: &Table, safe: &Safe, mark: Mark) -> bool
     requires kept { IsKept (lists_of table.now) }
     requires inside { IsIn (corners.place mark) (marks_at (lists_of table.now)) }
@@ -107,5 +162,5 @@ pub(crate) fn is_safe(table: &Table, safe: &Safe, mark: Mark) -> bool
     ensures { result ≡ true → AreGrowersDear (problem_of (lists_of table.now))
         (marks_at (lists_of table.now)) mark (PriorityOf MOST) }
 {
-    has(safe, line_slot(table, mark.row), mark.side)
+    is_line_safe(table, safe, line_slot(table, mark.row), mark.side)
 }

@@ -6,8 +6,11 @@ ghost use Rattle.corner_table.specs.Histories.{HasSameHistory};
 ghost use Rattle.corner_table.specs.Kept.{AreSlots, IsKept};
 ghost use Rattle.corner_table.specs.Tables.{lists_of};
 
+mod listed;
+
 use corner_table::{Standing, Table, attr_slot, line_slot, side_at, value_at};
 use frac_core::{Frac, OutOfMemory};
+pub(crate) use listed::stand_listed;
 use problem_core::{RowName, Stay};
 
 // Gives a stay its attribute's value as target.

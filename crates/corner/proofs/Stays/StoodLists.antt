@@ -40,11 +40,11 @@ kind_of LevelSlot = 0
 kind_of (AttrSlot attr) = 1
 kind_of (LineSlot name) = 2
 
-abbrev attr_or : RowName → ℕ
+abbrev pub attr_or : RowName → ℕ
 attr_or (Held id) = 0
 attr_or (StayOf attr) = attr + 1
 
-abbrev line_or : Owner → ℕ
+abbrev pub line_or : Owner → ℕ
 line_or LevelSlot = 0
 line_or (AttrSlot attr) = 0
 line_or (LineSlot name) = attr_or name
@@ -66,7 +66,7 @@ pub level_no_stay : (t : Lists) (w b : ℕ) → AreSlots t → HasStay t.stays b
 level_no_stay t w b h two lt e =
     let s = named_slot t (StayOf b) h (stay_named (problem_of t) b two) in absurd (omega (arith, s.0, e, lt))
 
-first_apart : (t : Lists) (i n : ℕ) (s r : Stay) → AreSlots t → i < n → n < length t.stays → stay_slot t (slice_index_or t.stays i s).attr ≢ stay_slot t (slice_index_or t.stays n r).attr
+pub first_apart : (t : Lists) (i n : ℕ) (s r : Stay) → AreSlots t → i < n → n < length t.stays → stay_slot t (slice_index_or t.stays i s).attr ≢ stay_slot t (slice_index_or t.stays n r).attr
 first_apart t i n s r h lt within e =
     let less = h.stays_rise i n s lt within in
     let same : slice_index_or t.stays n s ≡ slice_index_or t.stays n r = get_or_default t.stays n s r within in

@@ -1,6 +1,6 @@
 -- A corner after an exchange or a turn by which no column becomes negative is consistent with the same lines
 -- listed.
-use Rattle.std.proofs.Common.{◌≡◌, ℕ, List, [], arith, subst, sym, Contains, All}
+use Rattle.std.proofs.Common.{◌≡◌, ℕ, List, [], arith, subst, sym, Contains}
 use Rattle.std.specs.declared.option.Option.{Option}
 use Rattle.problem_core.specs.declared.parts.Mark.{Mark}
 use Rattle.problem_core.specs.declared.parts.RowName.{RowName}

@@ -1,4 +1,4 @@
-use Rattle.std.proofs.Common.{◌<◌, ◌≤◌, inl, inr, subst, sym, arith}
+use Rattle.std.proofs.Common.{◌<◌, inl, inr, subst, sym}
 use Rattle.std.proofs.lemmas.Bool.{cases_lt}
 use Rattle.frac_core.proofs.Bools.{not-both as not_both}
 use Rattle.corner_table.specs.declared.table.Slot.{Slot}
@@ -18,6 +18,3 @@ turn_stay-requires-clause-stay c = elim (cases_lt (slot_at (lists_of c.args.tabl
   | inl low ↦ absurd (not_both c.is_level.result (c.is_level.ensures.1 (subst (λ (s : Slot). s.home < LEVELS) (sym c.slot_at.ensures) low)) c.if-is_level.false)
   | inr high ↦ high
 ]
-
-pub returns-then-is_level-clause-safe : goal.returns-then-is_level-clause-safe
-returns-then-is_level-clause-safe c = c.clear_safe.ensures (lists_of c.turn_settled.new.table)

@@ -1,5 +1,6 @@
 use Rattle.std.proofs.Common.{None}
 use Rattle.corner_table.specs.Tables.{lists_of}
+use Rattle.corner.proofs.AstrayStays.{turned_stays}
 use Rattle.corner.proofs.Safety.{turned_safe}
 use Rattle.corner.proofs.Swaps.NextConsistent.{marked_next, turned_seen}
 use Rattle.corner.proofs.Swaps.SettledNext.{turned_settled}
@@ -17,9 +18,13 @@ returns-in-Ok-clause-consistent c =
 pub returns-in-Ok-clause-problem : goal.returns-in-Ok-clause-problem
 returns-in-Ok-clause-problem c = (turned_seen (lists_of c.args.table.now) (lists_of c.turn_unlisted.new.table) c.args.line c.args.side None c.in-Ok.ensures.lists).problem
 
-pub returns-in-Ok-clause-safe : goal.returns-in-Ok-clause-safe
-returns-in-Ok-clause-safe c =
-    turned_safe (lists_of c.args.table.now) (lists_of c.turn_unlisted.new.table) c.args.line c.args.side c.requires.turn.swap c.args.safe.now c.requires.turn.kept c.requires.turn.is c.in-Ok.ensures.lists c.requires.safe
+pub returns-in-Ok-clause-known : goal.returns-in-Ok-clause-known
+returns-in-Ok-clause-known c =
+    let t = lists_of c.args.table.now in
+    let u = lists_of c.turn_unlisted.new.table in (
+      turned_safe t u c.args.line c.args.side c.requires.turn.swap c.args.known.now.safe c.requires.turn.kept c.requires.turn.is c.in-Ok.ensures.lists c.requires.known.0,
+      λ known. turned_stays t u c.args.line c.args.side c.requires.turn.swap None c.requires.turn.kept.slots c.requires.turn.is c.requires.stay c.in-Ok.ensures.lists c.args.known.now.astray.lines (c.requires.known.1 known),
+    )
 
-pub returns-in-Err-clause-safe : goal.returns-in-Err-clause-safe
-returns-in-Err-clause-safe c = c.clear_safe.ensures (lists_of c.rewound.new.table)
+pub returns-in-Err-clause-known : goal.returns-in-Err-clause-known
+returns-in-Err-clause-known c = c.forget_known.ensures (lists_of c.rewound.new.table)

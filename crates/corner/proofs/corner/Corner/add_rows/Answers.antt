@@ -10,7 +10,7 @@ pub join_rows-requires-clause-values : goal.join_rows-requires-clause-values
 join_rows-requires-clause-values c = subst (λ (v : CornerView). NoNegativeValue v.problem v.marks) (sym c.self.view_is) c.requires.values
 
 pub invariant_of-self : goal.invariant_of-self
-invariant_of-self c = (c.in-Ok.ensures.consistent, c.clear_safe.ensures (lists_of c.join_rows.new.table))
+invariant_of-self c = (c.in-Ok.ensures.consistent, c.forget_known.ensures (lists_of c.join_rows.new.table))
 
 pub returns-in-Err-clause-stop : goal.returns-in-Err-clause-stop
 returns-in-Err-clause-stop c =
@@ -21,4 +21,4 @@ returns-in-Ok-clause-fits c =
     subst (λ (v : CornerView). AllSumsFit v c.args.rows.now) c.self.view_is (seen_fits c.self.inside.table c.self.inside.listed c.args.rows.now c.in-Ok.ensures.fits)
 
 pub invariant_of-self-in-Err : goal.invariant_of-self-in-Err
-invariant_of-self-in-Err c = (c.take_back.ensures.consistent, c.clear_safe.ensures (lists_of c.take_back.new.table))
+invariant_of-self-in-Err c = (c.take_back.ensures.consistent, c.forget_known.ensures (lists_of c.take_back.new.table))

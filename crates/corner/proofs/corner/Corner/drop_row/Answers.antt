@@ -37,4 +37,4 @@ returns-clause-stop c =
     (subst (λ (n : ℕ). IsUnfitStop (without_row n (problem_of (lists_of c.self.inside.table))) (without_marks (n ∷ []) (marks_at (lists_of c.self.inside.table))) e) c.leaver_of-leaver.ensures.id h)) c.take_row.ensures.stop
 
 pub invariant_of-self : goal.invariant_of-self
-invariant_of-self c = (c.take_row.ensures.consistent, c.clear_safe.ensures (lists_of c.take_row.new.table))
+invariant_of-self c = (c.take_row.ensures.consistent, c.forget_known.ensures (lists_of c.take_row.new.table))

@@ -3,13 +3,13 @@ use Rattle.corner.proofs.Corners.CornerFacts.{forget_before, forget_kept}
 use Rattle.corner.specs.Views.{CornerView}
 use Rattle.corner_table.specs.Histories.{lists_before}
 use Rattle.corner_table.specs.Tables.{lists_of, scene_at}
-use Rattle.corner.proofs.Safety.{same_safe}
+use Rattle.corner.proofs.AstrayStays.{same_known}
 use Rattle.corner.proofs.corner.Corner.forget.Goals as goal
 
 pub invariant_of-self : goal.invariant_of-self
 invariant_of-self c = (
   forget_kept c.self.inside.table c.forget.new.table c.self.inside.listed (length c.self.inside.table.rows.before - 1) c.self.invariant.0 c.forget.ensures.alike c.forget.ensures.now c.forget.ensures.before,
-  same_safe (lists_of c.self.inside.table) (lists_of c.forget.new.table) c.self.inside.safe c.forget.ensures.now c.self.invariant.1,
+  same_known (lists_of c.self.inside.table) (lists_of c.forget.new.table) c.self.inside.known c.forget.ensures.now c.self.invariant.1,
 )
 
 pub returns-clause-before : goal.returns-clause-before

@@ -12,4 +12,4 @@ returns c =
 pub invariant_of-result : goal.invariant_of-result
 invariant_of-result c =
     let first : IsConsistent c.in_ok-table.table c.new-listed.result = search rules in
-    (first, c.no_safe-safe.ensures (lists_of c.in_ok-table.table))
+    (first, c.nothing_known-known.ensures (lists_of c.in_ok-table.table) c.in_ok-table.ensures.stays)

@@ -12,7 +12,7 @@ pub returns-in-Ok-clause-marks : goal.returns-in-Ok-clause-marks
 returns-in-Ok-clause-marks c = subst (λ (v : CornerView). SameMarks (marks_at (lists_of c.put_front.new.table)) v.marks) c.self.view_is c.in-Ok.ensures.marks
 
 pub invariant_of-self : goal.invariant_of-self
-invariant_of-self c = (c.in-Ok.ensures.consistent, c.clear_safe.ensures (lists_of c.put_front.new.table))
+invariant_of-self c = (c.in-Ok.ensures.consistent, c.forget_known.ensures (lists_of c.put_front.new.table))
 
 pub invariant_of-self-in-Err : goal.invariant_of-self-in-Err
-invariant_of-self-in-Err c = (c.take_back.ensures.consistent, c.clear_safe.ensures (lists_of c.take_back.new.table))
+invariant_of-self-in-Err c = (c.take_back.ensures.consistent, c.forget_known.ensures (lists_of c.take_back.new.table))

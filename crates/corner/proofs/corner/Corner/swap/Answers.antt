@@ -110,7 +110,7 @@ returns-clause-stop c =
     c.exchange_lines.ensures.stop
 
 pub invariant_of-self : goal.invariant_of-self
-invariant_of-self c = (c.turn_line.ensures.consistent, c.clear_safe.ensures (lists_of c.turn_line.new.table))
+invariant_of-self c = (c.turn_line.ensures.consistent, c.forget_known.ensures (lists_of c.turn_line.new.table))
 
 pub invariant_of-self-2 : goal.invariant_of-self-2
-invariant_of-self-2 c = (c.exchange_lines.ensures.consistent, c.clear_safe.ensures (lists_of c.exchange_lines.new.table))
+invariant_of-self-2 c = (c.exchange_lines.ensures.consistent, c.forget_known.ensures (lists_of c.exchange_lines.new.table))

@@ -113,4 +113,4 @@ exchange_settled-requires-clause-settled c =
     )
 
 pub invariant_of-self-2 : goal.invariant_of-self-2
-invariant_of-self-2 c = (c.exchange_settled.ensures.consistent, c.clear_safe.ensures (lists_of c.exchange_settled.new.table))
+invariant_of-self-2 c = (c.exchange_settled.ensures.consistent, c.forget_known.ensures (lists_of c.exchange_settled.new.table))
