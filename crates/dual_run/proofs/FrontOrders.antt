@@ -2,12 +2,20 @@
 use Rattle.std.proofs.Common.{◌≡◌, ◌≢◌, ◌∙◌, inl, inr, refl, ℕ, zero, suc, ◌<◌, ◌≤◌, List, ℤ, pos, negsuc, ◌*ℤ◌, ◌-ℤ◌, ◌≤ℤ◌, ◌<ℤ◌, sym, ap, subst, arith}
 use borrow.Author.Differences.{ints}
 use Rattle.frac_core.proofs.Integers.{mul-zero_ℤ, mul_positive}
+use Rattle.std.proofs.lemmas.List.Elements.{recursion_from_All}
+use Rattle.problem_core.specs.declared.parts.Level.{Level}
+use Rattle.problem_core.specs.declared.parts.Level.TheVariants.{Priority, Stay as StayLevel}
 use Rattle.problem_core.specs.declared.parts.Mark.{Mark}
-use Rattle.problem_core.specs.Layout.{Problem, lines}
+use Rattle.problem_core.specs.declared.parts.Rel.TheVariants.{Eq}
+use Rattle.problem_core.specs.declared.parts.RowName.TheVariants.{Stay as StayOf}
+use Rattle.problem_core.specs.Layout.{Problem, lines, stay_lines}
 use Rattle.problem_core.specs.Certificates.{IsLexNonnegative}
 use Rattle.problem_core.specs.Corners.{NoNegativeColumn, place}
+use Rattle.problem_core.specs.Kept.{IsWhole}
 use Rattle.problem_core.specs.Levels.{IsLevelAt}
-use Rattle.corner_laws.proofs.RunSteps.ColumnSigns.{negative_by_reduced}
+use Rattle.problem_core.proofs.RowNames.{stay-same}
+use Rattle.frac_core.proofs.Orders.{three as order}
+use Rattle.corner_laws.proofs.RunSteps.ColumnSigns.{negative_by_reduced, pick}
 use Rattle.corner_writings.specs.declared.levels.Front.{Front}
 use Rattle.corner.specs.Views.{HasNoFront, IsFrontOf, IsKeptCorner, IsMarkOf, IsStronger}
 use Rattle.corner_ends.specs.Columns.{Reduced}
@@ -18,7 +26,8 @@ use Rattle.dual_run.specs.Entering.{IsNoGreater, IsPositive}
 use Rattle.dual_run.proofs.Lesser.{lex_at, lex_same, lex_times}
 use Rattle.dual_run.proofs.Orders.{both-zero, cost_there}
 use Rattle.corner_writings.proofs.Readings.LowLines.{up_or_low}
-use Rattle.corner_lines.proofs.LevelRows.StayRows.{level_one}
+use Rattle.corner_lines.proofs.LevelRows.StayRows.{level_one, stay_stands_alone}
+use Rattle.corner_writings.proofs.LevelFacts.LevelUseFacts.{past-rows, tail-level}
 
 not-none : (z : ℤ) → pos 0 ≤ℤ z → z ≢ pos 0 → pos 0 <ℤ z
 not-none (negsuc n) up some = absurd (omega (arith, ints, up))
@@ -65,6 +74,28 @@ up-less (pos a) b x y up above e =
     let two : b *ℤ y ≡ pos 0 = ap (λ (z : ℤ). b *ℤ z) e ∙ mul-zero_ℤ b in
     omega (arith, ints, one, two)
 
+stay_above : (p : Problem) (attr k : ℕ) → IsLevelAt p (StayLevel attr) k → 1001 ≤ k
+stay_above p attr k is = tail-level attr k 1001 p.stays (past-rows attr k p.rows (stay_lines 1001 p.stays) is)
+
+not-more : (j k : ℕ) → k < j → j ≤ k → ⊥
+not-more j k more le = omega (arith, more, le)
+
+-- a number is that of one level
+level_same : (p : Problem) (a b : Level) (k : ℕ) → IsWhole p → IsLevelAt p a k → IsLevelAt p b k → a ≡ b
+level_same p (Priority m) (Priority n) k whole x y = ap (λ (r : ℕ). Priority r) (omega (arith, x, y))
+level_same p (Priority m) (StayLevel attr) k whole x y = absurd (omega (arith, x, stay_above p attr k y))
+level_same p (StayLevel attr) (Priority n) k whole x y = absurd (omega (arith, y, stay_above p attr k x))
+level_same p (StayLevel m) (StayLevel n) k whole (i, l, within, is, (name, e)) y =
+    ap (λ (a : ℕ). StayLevel a) (stay-same m n (sym name ∙ (pick (λ l. l.level ≡ k → (l.name ≡ StayOf n) × (l.rel ≡ Eq) × (l.scale ≡ 1) × (l.weight ≡ 1)) (lines p) i l (recursion_from_All _ (lines p) (stay_stands_alone p n k whole y).own) within is e).0))
+
+-- of two levels one is the stronger
+pub other_stronger : (p : Problem) (a b : Level) → IsWhole p → a ≢ b → ((j k : ℕ) → IsLevelAt p a j → IsLevelAt p b k → k ≤ j) → IsStronger p b a
+other_stronger p a b whole apart weaker j k x y = elim (order j k) [
+  | inl less ↦ less
+  | inr (inl same) ↦ absurd (apart (level_same p a b k whole y (subst (IsLevelAt p b) same x)))
+  | inr (inr more) ↦ absurd (not-more j k more (weaker k j y x))
+]
+
 -- the weaker front is the lesser
 pub weaker_front : (p : Problem) (at : List Mark) (a b : Choice) (f g : Front) → IsKeptCorner p at → NoNegativeColumn p at → IsPositive p a → IsPositive p b → IsFrontOf p at a.mark f → IsFrontOf p at b.mark g → IsStronger p g.level f.level → IsNoGreater p at a b
 weaker_front p at a b f g kept columns x y front other stronger r =
@@ -83,17 +114,11 @@ above-by a b x y u v e f less =
     let two : a *ℤ v ≡ a *ℤ y = ap (λ (z : ℤ). a *ℤ z) f in
     omega (arith, ints, one, two, less)
 
-same-number : (j k : ℕ) → j ≤ k → k ≤ j → j ≡ k
-same-number j k a b = omega (arith, a, b)
-
 -- of fronts at one level the lesser ratio is the lesser
-pub lesser_ratio : (p : Problem) (at : List Mark) (a b : Choice) (f g : Front) → IsKeptCorner p at → IsPositive p a → IsPositive p b → IsFrontOf p at a.mark f → IsFrontOf p at b.mark g
-    → ((j k : ℕ) → IsLevelAt p f.level j → IsLevelAt p g.level k → k ≤ j) → ((j k : ℕ) → IsLevelAt p g.level j → IsLevelAt p f.level k → k ≤ j) → (b.by *ℤ f.reduced) <ℤ (a.by *ℤ g.reduced) → IsNoGreater p at a b
-lesser_ratio p at a b f g kept x y front other first second less r =
-    let j = front.reduced.0 in
+pub lesser_ratio : (p : Problem) (at : List Mark) (a b : Choice) (f g : Front) → IsKeptCorner p at → IsPositive p a → IsPositive p b → IsFrontOf p at a.mark f → IsFrontOf p at b.mark g → f.level ≡ g.level → (b.by *ℤ f.reduced) <ℤ (a.by *ℤ g.reduced) → IsNoGreater p at a b
+lesser_ratio p at a b f g kept x y front other e less r =
     let k = other.reduced.0 in
-    let same : j ≡ k = same-number j k (second k j other.reduced.1 front.reduced.1) (first j k front.reduced.1 other.reduced.1) in
-    let here : IsLevelAt p f.level k = subst (IsLevelAt p f.level) same front.reduced.1 in
+    let here : IsLevelAt p f.level k = subst (λ (l : Level). IsLevelAt p l k) (sym e) other.reduced.1 in
     lex_at (λ i. a.by *ℤ r.costs i (place b.mark) -ℤ b.by *ℤ r.costs i (place a.mark)) k
     (λ i before. both-zero a.by b.by (r.costs i (place b.mark)) (r.costs i (place a.mark)) (none_before p at r b.mark g k i kept y.mark other other.reduced.1 before) (none_before p at r a.mark f k i kept x.mark front here before))
     (above-by a.by b.by f.reduced g.reduced (r.costs k (place a.mark)) (r.costs k (place b.mark))

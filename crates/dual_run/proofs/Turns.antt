@@ -1,9 +1,12 @@
 -- The mark of a line with which the leaving one grows, and what the required rows decide.
-use Rattle.std.proofs.Common.{◌≡◌, ◌≢◌, ◌∙◌, inl, inr, ℕ, List, slice_get, Some, ℤ, pos, neg_ℤ, ◌*ℤ◌, ◌-ℤ◌, ◌≤ℤ◌, ◌<ℤ◌, refl, sym, ap, subst, arith, All}
+use Rattle.std.proofs.Common.{◌≡◌, ◌≢◌, ◌∙◌, inl, inr, ℕ, zero, suc, ◌<◌, ◌≤◌, List, slice_get, Some, ℤ, pos, negsuc, neg_ℤ, unsigned_abs, ◌*ℤ◌, ◌-ℤ◌, ◌≤ℤ◌, ◌<ℤ◌, refl, sym, ap, subst, arith, All}
 use Rattle.std.proofs.lemmas.List.Elements.{recursion_from_All}
 use Rattle.std.proofs.Math.Nat.{eq-one_of_dvd-one}
 use borrow.Author.Differences.{ints}
+use Rattle.frac_core.specs.Fraction.{IsFitting}
+use Rattle.frac_core.specs.declared.frac.TheConstants.{PART_BOUND}
 use Rattle.frac_core.proofs.Integers.{mul-zero_ℤ}
+use Rattle.frac_core.proofs.Orders.{three as order}
 use Rattle.problem_core.specs.declared.parts.Mark.{Mark}
 use Rattle.problem_core.specs.declared.parts.RowName.{RowName}
 use Rattle.problem_core.specs.declared.parts.Side.{Side}
@@ -32,9 +35,9 @@ use Rattle.corner_ends.proofs.Fronts.{any_there, reduced_there, some_line}
 use Rattle.corner_ends.proofs.Marks.{got_holds, in_mark, one_mark}
 use Rattle.corner_ends.proofs.ReadNumbers.{coefficient_is}
 use Rattle.dual_run.specs.declared.ratios.Choice.{Choice}
-use Rattle.dual_run.specs.Entering.{AreDear, IsBeforeLine, IsBeforeMark, IsChoice, IsDear, IsDearMark, IsFree, NeverGrows}
+use Rattle.dual_run.specs.Entering.{AreDear, IsBeforeLine, IsBeforeMark, IsChoice, IsDear, IsDearMark, IsFree, IsLesser, IsNoGreater, IsNumberOf, NeverGrows}
 use Rattle.dual_run.specs.Leaving.{MayLeave}
-use Rattle.dual_run.proofs.Choices.{choice_moves, choice_swaps, own_before, own_is_choice}
+use Rattle.dual_run.proofs.Choices.{before_choice, choice_moves, choice_swaps, own_before, own_is_choice}
 use Rattle.dual_run.proofs.FrontOrders.{column-up, up-less}
 use Rattle.dual_run.proofs.Lesser.{lex_at}
 use Rattle.dual_run.proofs.Lows.{same_or_other}
@@ -66,19 +69,33 @@ apart_from leave name side other e = other (ap (λ (m : Mark). m.row) (one_mark 
 up-opposite : (z a b : ℤ) → pos 0 <ℤ z → z ≡ a → b ≡ neg_ℤ a → pos 0 <ℤ b → ⊥
 up-opposite z a b up is e over = omega (arith, ints, up, is, e, over)
 
-not-up : (z a : ℤ) → z ≤ℤ pos 0 → z ≡ a → pos 0 <ℤ a → ⊥
-not-up z a low is up = omega (arith, ints, low, is, up)
+-- so the over mark's is the opposite of the under mark's
+pub over_number : (p : Problem) (at : List Mark) (leave : Mark) (name : RowName) (z : ℤ) → IsKeptCorner p at → AreBothOutside p at name → name ≢ leave.row → IsNumberOf p at leave (record { row = name; side = Under }) z → IsNumberOf p at leave (record { row = name; side = Over }) (neg_ℤ z)
+over_number p at leave name z kept both other is w writes =
+    ap neg_ℤ (is w writes) ∙ sym (opposite_numbers p at (place leave) name w kept (mark_named p (record { row = name; side = Under }) (both Under).0) (λ side. apart_from leave name side other) writes)
 
-pub over_never : (p : Problem) (at : List Mark) (leave : Mark) (name : RowName) (z : ℤ) → IsKeptCorner p at → AreBothOutside p at name → name ≢ leave.row → ((w : Writing) → Writes p at (place leave) w → z ≡ coefficient (place_of name Under) w.form) → pos 0 <ℤ z → NeverGrows p at leave (record { row = name; side = Over })
-over_never p at leave name z kept both other is up w writes over =
-    up-opposite z (coefficient (place_of name Under) w.form) (coefficient (place_of name Over) w.form) up (is w writes)
-    (opposite_numbers p at (place leave) name w kept (mark_named p (record { row = name; side = Under }) (both Under).0) (λ side. apart_from leave name side other) writes) over
+below-or : (n bound : ℕ) → (bound ≤ n → ⊥) → n < bound
+below-or n bound never = elim (order n bound) [
+  | inl less ↦ less
+  | inr (inl same) ↦ absurd (never (omega (arith, same)))
+  | inr (inr more) ↦ absurd (never (omega (arith, more)))
+]
 
-pub under_never : (p : Problem) (at : List Mark) (leave : Mark) (name : RowName) (z : ℤ) → ((w : Writing) → Writes p at (place leave) w → z ≡ coefficient (place_of name Under) w.form) → z ≤ℤ pos 0 → NeverGrows p at leave (record { row = name; side = Under })
-under_never p at leave name z is low w writes up = not-up z (coefficient (place_of name Under) w.form) low (is w writes) up
+not-below : (n bound : ℕ) → bound ≤ n → n < bound → ⊥
+not-below n bound over less = omega (arith, over, less)
 
-pub outside_at : (p : Problem) (at : List Mark) (name : RowName) (m : Mark) → m.row ≡ name → AreBothOutside p at name → IsOutside p at m
-outside_at p at name m e both = subst (λ (n : RowName). IsOutside p at (record { row = n; side = m.side })) (sym e) (both m.side)
+-- an inside mark's writing fits
+pub number_fits : (p : Problem) (at : List Mark) (leave m : Mark) (z : ℤ) → IsKeptCorner p at → IsIn (place leave) at → IsNumberOf p at leave m z → IsFitting z
+number_fits p at leave m z kept inside is =
+    below-or (unsigned_abs z) PART_BOUND (λ over. kept.fits (MarkOf leave) (
+      inside,
+      λ scale form value writes unit each fits. not-below (unsigned_abs z) PART_BOUND over
+          (subst IsFitting (sym (is (record { scale = scale; form = form; num = value.num; den = value.den }) writes)) (each (place m))),
+    ))
+
+-- where the leaving mark grows with a mark this is a choice
+pub grown_choice : (p : Problem) (at : List Mark) (leave : Mark) (name : RowName) (side : Side) (z : ℤ) → AreBothOutside p at name → IsNumberOf p at leave (record { row = name; side = side }) z → pos 0 <ℤ z → IsChoice p at leave (record { mark = record { row = name; side = side }; by = z })
+grown_choice p at leave name side z both is up = record { outside = both side; above = up; by = is }
 
 -- what holds of the one mark, if the leaving one grows with it, holds of both if it doesn't with the other
 line_grown : (p : Problem) (at : List Mark) (leave : Mark) (name : RowName) (m : Mark) (P : Mark → Writing → Type 0) → m.row ≡ name → NeverGrows p at leave (other_mark m)
@@ -97,6 +114,10 @@ line_grown p at leave name m P e never holds side w writes up =
 pub before_grown : (p : Problem) (at : List Mark) (leave : Mark) (f : Choice) (name : RowName) (m : Mark) → m.row ≡ name → NeverGrows p at leave (other_mark m) → IsBeforeMark p at leave f m → IsBeforeLine p at leave f name
 before_grown p at leave f name m e never before side w writes up =
     line_grown p at leave name m (λ n v. IsBeforeMark p at leave f n) e never (λ v a b. before) side w writes up w writes up
+
+-- what is no greater than a choice of the line is no greater than its marks
+pub before_choice_line : (p : Problem) (at : List Mark) (leave : Mark) (a b : Choice) (name : RowName) → IsChoice p at leave b → b.mark.row ≡ name → NeverGrows p at leave (other_mark b.mark) → IsNoGreater p at a b → IsBeforeLine p at leave a name
+before_choice_line p at leave a b name x e never h = before_grown p at leave a name b.mark e never (before_choice p at leave a b b.mark x refl h)
 
 pub dear_grown : (p : Problem) (at : List Mark) (leave : Mark) (name : RowName) (m : Mark) → m.row ≡ name → NeverGrows p at leave (other_mark m) → IsDear p at m → (side : Side) → IsDearMark p at leave (record { row = name; side = side })
 dear_grown p at leave name m e never dear side w writes up = line_grown p at leave name m (λ n v. IsDear p at n) e never (λ v a b. dear) side w writes up
@@ -142,13 +163,32 @@ free_cost p at m z kept mark cost low r = subst (λ (k : ℤ). k ≤ℤ pos 0) (
 none-between : (z : ℤ) → pos 0 ≤ℤ z → z ≤ℤ pos 0 → z ≡ pos 0
 none-between z up low = omega (arith, ints, up, low)
 
+not-up : (z : ℤ) → (pos 0 <ℤ z → ⊥) → z ≤ℤ pos 0
+not-up (pos zero) never = omega (arith, ints)
+not-up (pos (suc n)) never = absurd (never (omega (arith, ints)))
+not-up (negsuc n) never = omega (arith, ints)
+
+none-there : (p : Problem) (at : List Mark) (leave : Mark) (f : Choice) → IsKeptCorner p at → NoNegativeColumn p at → IsChoice p at leave f → IsFree p at f.mark → (r : Reduced p at) → r.costs 0 (place f.mark) ≡ pos 0
+none-there p at leave f kept columns choice free r = none-between (r.costs 0 (place f.mark)) (column-up p at r f.mark kept columns choice.outside.0 0 (λ k less. absurd (nothing-before k less))) (free r)
+
 -- what costs there has the greater column
-free_before : (p : Problem) (at : List Mark) (leave : Mark) (f : Choice) (m : Mark) → IsKeptCorner p at → NoNegativeColumn p at → IsChoice p at leave f → IsFree p at f.mark → IsDearMark p at leave m → IsBeforeMark p at leave f m
-free_before p at leave f m kept columns choice free dear w writes up r =
-    let none : r.costs 0 (place f.mark) ≡ pos 0 = none-between (r.costs 0 (place f.mark)) (column-up p at r f.mark kept columns choice.outside.0 0 (λ k less. absurd (nothing-before k less))) (free r) in
-    lex_at (λ i. f.by *ℤ r.costs i (place m) -ℤ coefficient (place m) w.form *ℤ r.costs i (place f.mark)) 0
+pub free_lesser : (p : Problem) (at : List Mark) (leave : Mark) (f : Choice) (m : Mark) (z : ℤ) → IsKeptCorner p at → NoNegativeColumn p at → IsChoice p at leave f → IsFree p at f.mark → IsDear p at m → (r : Reduced p at) → IsLesser r.costs (place f.mark) f.by (place m) z
+free_lesser p at leave f m z kept columns choice free dear r =
+    lex_at (λ i. f.by *ℤ r.costs i (place m) -ℤ z *ℤ r.costs i (place f.mark)) 0
     (λ k less. absurd (nothing-before k less))
-    (up-less f.by (coefficient (place m) w.form) (r.costs 0 (place m)) (r.costs 0 (place f.mark)) choice.above (dear w writes up r) none)
+    (up-less f.by z (r.costs 0 (place m)) (r.costs 0 (place f.mark)) choice.above (dear r) (none-there p at leave f kept columns choice free r))
+
+-- what is no greater than what doesn't cost there doesn't either
+pub free_through : (p : Problem) (at : List Mark) (leave : Mark) (a b : Choice) → IsKeptCorner p at → NoNegativeColumn p at → IsChoice p at leave b → IsFree p at b.mark → IsNoGreater p at a b → IsFree p at a.mark
+free_through p at leave a b kept columns choice free before r =
+    let least = before r 0 (λ k less. absurd (nothing-before k less)) in
+    not-up (r.costs 0 (place a.mark))
+    (λ up.
+    let more = up-less b.by a.by (r.costs 0 (place a.mark)) (r.costs 0 (place b.mark)) choice.above up (none-there p at leave b kept columns choice free r) in
+    omega (arith, ints, least, more))
+
+free_before : (p : Problem) (at : List Mark) (leave : Mark) (f : Choice) (m : Mark) → IsKeptCorner p at → NoNegativeColumn p at → IsChoice p at leave f → IsFree p at f.mark → IsDearMark p at leave m → IsBeforeMark p at leave f m
+free_before p at leave f m kept columns choice free dear w writes up = free_lesser p at leave f m (coefficient (place m) w.form) kept columns choice free (dear w writes up)
 
 -- ---- the other mark of the leaving one's line
 

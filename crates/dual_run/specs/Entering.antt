@@ -26,11 +26,15 @@ pub record IsPositive (p : Problem) (f : Choice) : Type 0 where
   pub mark : IsMarkOf p f.mark
   pub above : pos 0 <ℤ f.by
 
+-- the mark's number in the leaving one's writing
+abbrev pub IsNumberOf : Problem → List Mark → Mark → Mark → ℤ → Type 0
+IsNumberOf p at leave m z = (w : Writing) → Writes p at (place leave) w → z ≡ coefficient (place m) w.form
+
 -- the mark is outside, and the leaving one grows with it by this number
 pub record IsChoice (p : Problem) (at : List Mark) (leave : Mark) (f : Choice) : Type 0 where
   pub outside : IsOutside p at f.mark
   pub above : pos 0 <ℤ f.by
-  pub by : (w : Writing) → Writes p at (place leave) w → f.by ≡ coefficient (place f.mark) w.form
+  pub by : IsNumberOf p at leave f.mark f.by
 
 -- the front is that of the choice's mark
 pub record HasFront (p : Problem) (at : List Mark) (f : Found) : Type 0 where
@@ -46,6 +50,10 @@ pub record IsFound (p : Problem) (at : List Mark) (leave : Mark) (f : Found) : T
 abbrev pub NeverGrows : Problem → List Mark → Mark → Mark → Type 0
 NeverGrows p at leave m = (w : Writing) → Writes p at (place leave) w
     → pos 0 <ℤ coefficient (place m) w.form → ⊥
+
+-- nor with either mark of the line
+abbrev pub HasNoGrower : Problem → List Mark → Mark → RowName → Type 0
+HasNoGrower p at leave name = (side : Side) → NeverGrows p at leave (record { row = name; side = side })
 
 -- the column of c over `by` is no greater than that of d over `other`
 abbrev pub IsLesser : (ℕ → ℕ → ℤ) → ℕ → ℤ → ℕ → ℤ → Type 0

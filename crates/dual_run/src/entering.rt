@@ -1,13 +1,15 @@
 // The outside mark that enters: the ratio test of the dual simplex method.
-ghost use Rattle.std.specs.Prelude.{◌≡◌, ◌≢◌, true, false, IfOk, IfSome, IfNone};
+ghost use Rattle.std.specs.Prelude.{◌≡◌, ◌≢◌, neg_ℤ, true, false, IfOk, IfSome, IfNone};
+ghost use Rattle.frac_core.specs.Fraction.{IsFitting};
 ghost use Rattle.problem_core.specs.Corners as corners;
 ghost use Rattle.problem_core.specs.Corners.{IsIn, NoNegativeColumn};
+ghost use Rattle.problem_core.specs.declared.parts.Side.TheVariants.{Under as UnderOf, Over as OverOf};
 ghost use Rattle.problem_core.specs.declared.stops.What.TheVariants.{Mark as MarkOf};
 ghost use Rattle.corner_laws.specs.Runs.{IsDualSwap, other_mark};
 ghost use Rattle.corner.specs.Views.{IsMarkOf, IsOutside, MovesWith};
 ghost use Rattle.corner_writings.specs.Entries.{AreBothOutside};
-ghost use Rattle.dual_run.specs.Entering.{AreDear, IsBeforeEntries, IsBeforeLine, IsBeforeMark, IsChoice};
-ghost use Rattle.dual_run.specs.Entering.{IsDear, IsFound, IsFree, IsNoGreater, NeverGrows};
+ghost use Rattle.dual_run.specs.Entering.{AreDear, HasNoGrower, IsBeforeEntries, IsBeforeLine, IsChoice};
+ghost use Rattle.dual_run.specs.Entering.{IsDear, IsFound, IsFree, IsNoGreater, IsNumberOf, NeverGrows};
 ghost use Rattle.dual_run.specs.Leaving.{MayLeave};
 
 use crate::leaving::other;
@@ -20,6 +22,7 @@ use problem_core::{Mark, RowName, Side, What};
 // The other mark of the leaving one's line, which grows as much.
 fn own_choice(c: &Corner, leave: Mark) -> Choice
     requires { IsIn (corners.place leave) c.now.marks }
+    ensures mark { result.mark ≡ other_mark leave }
     ensures choice { IsChoice c.now.problem c.now.marks leave result }
     ensures line { IsBeforeLine c.now.problem c.now.marks leave result leave.row }
 {
@@ -30,20 +33,64 @@ fn own_choice(c: &Corner, leave: Mark) -> Choice
     }
 }
 
-// The mark with its number, where the leaving mark grows with it.
-fn choice_at(c: &Corner, leave: Mark, mark: Mark) -> Option<Choice>
-    requires leave { IsIn (corners.place leave) c.now.marks }
-    requires mark { IsOutside c.now.problem c.now.marks mark }
-    ensures some { IfSome result (IsChoice c.now.problem c.now.marks leave) }
-    ensures mark { IfSome result (λ f. f.mark ≡ mark) }
-    ensures none { IfNone result (NeverGrows c.now.problem c.now.marks leave mark) }
+// The number with the other sign.
+fn opposite(by: i64) -> i64
+    requires { IsFitting by }
+    ensures { result ≡ neg_ℤ by }
 {
-    let by = coefficient_of(c, leave, mark);
-    if is_above(by) {
-        Some(Choice { mark, by })
-    } else {
-        None
+    -by
+}
+
+// The number of an outside line's under mark. Its over mark has the opposite one.
+fn number_at(c: &Corner, leave: Mark, row: RowName) -> i64
+    requires leave { IsIn (corners.place leave) c.now.marks }
+    requires row { AreBothOutside c.now.problem c.now.marks row }
+    requires other { row ≢ leave.row }
+    ensures under { IsNumberOf c.now.problem c.now.marks leave (record { row = row; side = UnderOf }) result }
+    ensures over { IsNumberOf c.now.problem c.now.marks leave (record { row = row; side = OverOf })
+        (neg_ℤ result) }
+    ensures fits { IsFitting result }
+{
+    c.show_corner(); // for the proof: what a corner keeps
+    let under = Mark {
+        row,
+        side: Side::Under,
+    };
+    coefficient_of(c, leave, under)
+}
+
+// The mark of an outside line with its number, where the leaving mark grows with it: with the other one it
+// does not.
+fn grower(c: &Corner, leave: Mark, row: RowName) -> Option<Choice>
+    requires leave { IsIn (corners.place leave) c.now.marks }
+    requires row { AreBothOutside c.now.problem c.now.marks row }
+    requires other { row ≢ leave.row }
+    ensures some { IfSome result (IsChoice c.now.problem c.now.marks leave) }
+    ensures row { IfSome result (λ f. f.mark.row ≡ row) }
+    ensures other { IfSome result (λ f. NeverGrows c.now.problem c.now.marks leave (other_mark f.mark)) }
+    ensures none { IfNone result (HasNoGrower c.now.problem c.now.marks leave row) }
+{
+    let under = number_at(c, leave, row);
+    if is_above(under) {
+        return Some(Choice {
+            mark: Mark {
+                row,
+                side: Side::Under,
+            },
+            by: under,
+        });
     }
+    let over = opposite(under);
+    if is_above(over) {
+        return Some(Choice {
+            mark: Mark {
+                row,
+                side: Side::Over,
+            },
+            by: over,
+        });
+    }
+    None
 }
 
 // The choice with its mark's front.
@@ -71,67 +118,76 @@ fn lesser(c: &Corner, leave: Mark, a: Found, b: Found) -> Result<Found, OutOfMem
     Ok(if before { a } else { b })
 }
 
-// The one with the lesser column over its number, of what is found and a mark.
-fn better(c: &Corner, leave: Mark, found: Found, mark: Mark) -> Result<Found, OutOfMemory>
+// Whether a mark costs at the level of the required rows.
+fn is_dear(c: &Corner, mark: Mark) -> bool
+    requires { IsMarkOf c.now.problem mark }
+    ensures yes { result ≡ true → IsDear c.now.problem c.now.marks mark }
+    ensures no { result ≡ false → IsFree c.now.problem c.now.marks mark }
+{
+    c.show_corner(); // for the proof: what a corner keeps
+    is_above(c.reduced(required_level(), mark))
+}
+
+// The one with the lesser column over its number, of what is found and a choice. What costs at the level of
+// the required rows is never lesser than what costs nothing there, so that its front needn't be read.
+fn better(
+    c: &Corner,
+    leave: Mark,
+    found: Found,
+    next: Choice,
+    is_free: bool,
+) -> Result<Found, OutOfMemory>
     requires columns { NoNegativeColumn c.now.problem c.now.marks }
-    requires leave { IsIn (corners.place leave) c.now.marks }
     requires found { IsFound c.now.problem c.now.marks leave found }
-    requires mark { IsOutside c.now.problem c.now.marks mark }
+    requires next { IsChoice c.now.problem c.now.marks leave next }
+    requires free { is_free ≡ true → IsFree c.now.problem c.now.marks found.choice.mark }
     ensures found { IfOk result (IsFound c.now.problem c.now.marks leave) }
     ensures least { IfOk result
         (λ best. IsNoGreater c.now.problem c.now.marks best.choice found.choice) }
-    ensures mark { IfOk result (λ best. IsBeforeMark c.now.problem c.now.marks leave best.choice mark) }
+    ensures next { IfOk result (λ best. IsNoGreater c.now.problem c.now.marks best.choice next) }
 {
-    match choice_at(c, leave, mark) {
+    c.show_corner(); // for the proof: what a corner keeps
+    if is_free && is_dear(c, next.mark) {
+        return Ok(found);
+    }
+    let best = lesser(c, leave, found, found_at(c, leave, next))?;
+    Ok(best)
+}
+
+// The one with the least column over its number, of what is found and the marks of an outside line.
+fn better_of(
+    c: &Corner,
+    leave: Mark,
+    found: Found,
+    row: RowName,
+    is_free: bool,
+) -> Result<Found, OutOfMemory>
+    requires columns { NoNegativeColumn c.now.problem c.now.marks }
+    requires leave { IsIn (corners.place leave) c.now.marks }
+    requires found { IsFound c.now.problem c.now.marks leave found }
+    requires row { AreBothOutside c.now.problem c.now.marks row }
+    requires other { row ≢ leave.row }
+    requires free { is_free ≡ true → IsFree c.now.problem c.now.marks found.choice.mark }
+    ensures found { IfOk result (IsFound c.now.problem c.now.marks leave) }
+    ensures least { IfOk result
+        (λ best. IsNoGreater c.now.problem c.now.marks best.choice found.choice) }
+    ensures line { IfOk result (λ best. IsBeforeLine c.now.problem c.now.marks leave best.choice row) }
+{
+    match grower(c, leave, row) {
         Some(next) => {
-            let best = lesser(c, leave, found, found_at(c, leave, next))?;
+            let best = better(c, leave, found, next, is_free)?;
             Ok(best)
         }
         None => Ok(found),
     }
 }
 
-// The mark of an outside line with which the leaving one may grow: with the other one it does not.
-fn growing(c: &Corner, leave: Mark, row: RowName) -> Mark
-    requires leave { IsIn (corners.place leave) c.now.marks }
-    requires row { AreBothOutside c.now.problem c.now.marks row }
-    requires other { row ≢ leave.row }
-    ensures row { result.row ≡ row }
-    ensures other { NeverGrows c.now.problem c.now.marks leave (other_mark result) }
-{
-    c.show_corner(); // for the proof: what a corner keeps
-    let under = Mark {
-        row,
-        side: Side::Under,
-    };
-    if is_above(coefficient_of(c, leave, under)) {
-        under
-    } else {
-        other(under)
-    }
-}
-
-// The one with the least column over its number, of what is found and the marks of an outside line.
-fn better_of(c: &Corner, leave: Mark, found: Found, row: RowName) -> Result<Found, OutOfMemory>
-    requires columns { NoNegativeColumn c.now.problem c.now.marks }
-    requires leave { IsIn (corners.place leave) c.now.marks }
-    requires found { IsFound c.now.problem c.now.marks leave found }
-    requires row { AreBothOutside c.now.problem c.now.marks row }
-    requires other { row ≢ leave.row }
-    ensures found { IfOk result (IsFound c.now.problem c.now.marks leave) }
-    ensures least { IfOk result
-        (λ best. IsNoGreater c.now.problem c.now.marks best.choice found.choice) }
-    ensures line { IfOk result (λ best. IsBeforeLine c.now.problem c.now.marks leave best.choice row) }
-{
-    let mark = growing(c, leave, row);
-    let best = better(c, leave, found, mark)?;
-    Ok(best)
-}
-
 // The mark with the least column over its number, of all outside marks with which the leaving one grows.
-fn least(c: &Corner, leave: Mark) -> Result<Choice, OutOfMemory>
+// `is_free` says that the one of its own line costs nothing at the level of the required rows.
+fn least(c: &Corner, leave: Mark, is_free: bool) -> Result<Choice, OutOfMemory>
     requires columns { NoNegativeColumn c.now.problem c.now.marks }
     requires leave { IsIn (corners.place leave) c.now.marks }
+    requires free { is_free ≡ true → IsFree c.now.problem c.now.marks (other_mark leave) }
     ensures choice { IfOk result (IsChoice c.now.problem c.now.marks leave) }
     ensures own { IfOk result
         (λ best. IsBeforeLine c.now.problem c.now.marks leave best leave.row) }
@@ -141,20 +197,10 @@ fn least(c: &Corner, leave: Mark) -> Result<Choice, OutOfMemory>
     let count = c.entries(leave);
     let mut found = found_at(c, leave, own_choice(c, leave));
     for i in 0..count {
-        let best = better_of(c, leave, found, c.entry(leave, i))?;
+        let best = better_of(c, leave, found, c.entry(leave, i), is_free)?;
         found = best;
     }
     Ok(found.choice)
-}
-
-// Whether a mark costs at the level of the required rows.
-fn is_dear(c: &Corner, mark: Mark) -> bool
-    requires { IsMarkOf c.now.problem mark }
-    ensures yes { result ≡ true → IsDear c.now.problem c.now.marks mark }
-    ensures no { result ≡ false → IsFree c.now.problem c.now.marks mark }
-{
-    c.show_corner(); // for the proof: what a corner keeps
-    is_above(c.reduced(required_level(), mark))
 }
 
 // Whether all outside marks of other lines with which the leaving one grows cost at the level of the
@@ -168,18 +214,13 @@ fn are_dear(c: &Corner, leave: Mark) -> bool
 }
 
 // Whether of all marks with which the leaving one grows its line's other mark alone costs nothing at the
-// level of the required rows.
-fn turns(c: &Corner, leave: Mark, own: Mark) -> bool
-    requires leave { IsIn (corners.place leave) c.now.marks }
-    requires own { IsMarkOf c.now.problem own }
-    ensures free { result ≡ true → IsFree c.now.problem c.now.marks own }
+// level of the required rows. `is_free` says that this one costs nothing there.
+fn turns(c: &Corner, leave: Mark, is_free: bool) -> bool
+    requires { IsIn (corners.place leave) c.now.marks }
+    ensures free { result ≡ true → is_free ≡ true }
     ensures dear { result ≡ true → AreDear c.now.problem c.now.marks leave }
 {
-    if is_dear(c, own) {
-        false
-    } else {
-        are_dear(c, leave)
-    }
+    is_free && are_dear(c, leave)
 }
 
 /// The mark that enters. Where the required rows alone decide, it is the leaving one's other mark.
@@ -193,9 +234,10 @@ pub(crate) fn entering(c: &Corner, leave: Mark) -> Result<Mark, OutOfMemory>
 {
     c.show_corner(); // for the proof: what a corner keeps
     let own = other(leave);
-    if turns(c, leave, own) {
+    let is_free = !is_dear(c, own);
+    if turns(c, leave, is_free) {
         return Ok(own);
     }
-    let best = least(c, leave)?;
+    let best = least(c, leave, is_free)?;
     Ok(best.mark)
 }

@@ -72,7 +72,8 @@ fn ratio_order(a: Choice, f: Front, b: Choice, g: Front) -> Ordering
 }
 
 // The order of two columns over their numbers by their fronts: the weaker front is the lesser, and of fronts
-// at one level that with the lesser ratio. Equal where levels behind them decide.
+// at one level that with the lesser ratio. Equal where levels behind them decide. Of two levels one is the
+// stronger, so one look decides.
 fn front_order(c: &Corner, a: Choice, f: Front, b: Choice, g: Front) -> Ordering
     requires columns { NoNegativeColumn c.now.problem c.now.marks }
     requires a { IsPositive c.now.problem a }
@@ -83,13 +84,14 @@ fn front_order(c: &Corner, a: Choice, f: Front, b: Choice, g: Front) -> Ordering
     ensures greater { result ≡ IsGreater → IsNoGreater c.now.problem c.now.marks b a }
 {
     c.show_corner(); // for the proof: what a corner keeps
+    if f.level == g.level {
+        return ratio_order(a, f, b, g);
+    }
     if c.is_stronger(f.level, g.level) {
-        return Ordering::Greater;
+        Ordering::Greater
+    } else {
+        Ordering::Less
     }
-    if c.is_stronger(g.level, f.level) {
-        return Ordering::Less;
-    }
-    ratio_order(a, f, b, g)
 }
 
 // The order of two columns over their numbers, Equal where levels behind their fronts decide.

@@ -1,9 +1,10 @@
+use borrow.Author.Tests.{not-true}
 use Rattle.dual_run.proofs.Choices.{choice_moves, choice_swaps}
 use Rattle.dual_run.proofs.Turns.{turn_of}
 use Rattle.dual_run.proofs.entering.entering.Goals as goal
 
-pub turns-requires-clause-own : goal.turns-requires-clause-own
-turns-requires-clause-own c = (turn_of c.args.c.now.problem c.args.c.now.marks c.args.leave c.other-own.result c.show_corner.ensures.kept c.requires.columns c.requires.leave c.other-own.ensures).outside.0
+pub is_dear-is_free-requires : goal.is_dear-is_free-requires
+is_dear-is_free-requires c = (turn_of c.args.c.now.problem c.args.c.now.marks c.args.leave c.other-own.result c.show_corner.ensures.kept c.requires.columns c.requires.leave c.other-own.ensures).outside.0
 
 pub returns-then-turns-clause-outside : goal.returns-then-turns-clause-outside
 returns-then-turns-clause-outside c = (turn_of c.args.c.now.problem c.args.c.now.marks c.args.leave c.other-own.result c.show_corner.ensures.kept c.requires.columns c.requires.leave c.other-own.ensures).outside
@@ -14,7 +15,7 @@ returns-then-turns-clause-moves c = (turn_of c.args.c.now.problem c.args.c.now.m
 pub returns-then-turns-clause-swap : goal.returns-then-turns-clause-swap
 returns-then-turns-clause-swap c =
     (turn_of c.args.c.now.problem c.args.c.now.marks c.args.leave c.other-own.result c.show_corner.ensures.kept c.requires.columns c.requires.leave c.other-own.ensures).swap
-    (c.turns.ensures.free c.if-turns.true) (c.turns.ensures.dear c.if-turns.true)
+    (c.is_dear-is_free.ensures.no (not-true c.is_dear-is_free.result (c.turns.ensures.free c.if-turns.true))) (c.turns.ensures.dear c.if-turns.true)
 
 pub returns-clause-moves : goal.returns-clause-moves
 returns-clause-moves c = choice_moves c.args.c.now.problem c.args.c.now.marks c.args.leave c.in_ok-best.best c.show_corner.ensures.kept c.requires.leave.low.inside c.in_ok-best.ensures.choice

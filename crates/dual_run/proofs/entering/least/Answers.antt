@@ -1,13 +1,14 @@
-use Rattle.std.proofs.Common.{arith, subst, sym}
+use Rattle.std.proofs.Common.{arith, subst, sym, ap, ◌∙◌}
 use Rattle.dual_run.specs.declared.ratios.Choice.{Choice}
-use Rattle.dual_run.specs.Entering.{IsBeforeLine}
+use Rattle.dual_run.specs.Entering.{IsBeforeLine, IsFree}
 use Rattle.dual_run.proofs.Choices.{all_entries, entry_outside, first_more, line_through}
-use Rattle.dual_run.proofs.Turns.{entry_other}
+use Rattle.dual_run.proofs.Turns.{entry_other, free_through}
 use Rattle.dual_run.proofs.entering.least.Goals as goal
 
 pub loop-i-init : goal.loop-i-init
 loop-i-init c = record {
   found = c.found_at-found.ensures.found;
+  free = λ yes. subst (IsFree c.args.c.now.problem c.args.c.now.marks) (sym (ap (λ (f : Choice). f.mark) c.found_at-found.ensures.choice ∙ c.own_choice.ensures.mark)) (c.requires.free yes);
   own = subst (λ (f : Choice). IsBeforeLine c.args.c.now.problem c.args.c.now.marks c.args.leave f c.args.leave.row) (sym c.found_at-found.ensures.choice) c.own_choice.ensures.line;
   least = λ names are k name less got. absurd (omega (arith, less));
 }
@@ -32,6 +33,7 @@ better_of-requires-clause-other c =
 pub loop-i-preserved : goal.loop-i-preserved
 loop-i-preserved c = record {
   found = c.in_ok-best.ensures.found;
+  free = λ yes. free_through c.args.c.now.problem c.args.c.now.marks c.args.leave c.in_ok-best.best.choice c.loop-i.found.choice c.show_corner.ensures.kept c.requires.columns c.loop-i.invariant.found.choice (c.loop-i.invariant.free yes) c.in_ok-best.ensures.least;
   own = line_through c.args.c.now.problem c.args.c.now.marks c.args.leave c.in_ok-best.best.choice c.loop-i.found.choice c.args.leave.row c.in_ok-best.ensures.found.choice c.loop-i.invariant.found.choice c.in_ok-best.ensures.least c.loop-i.invariant.own;
   least = first_more c.args.c.now c.args.leave c.in_ok-best.best.choice c.loop-i.found.choice c.loop-i.i c.entry.result c.in_ok-best.ensures.found.choice c.loop-i.invariant.found.choice c.in_ok-best.ensures.least c.entry.ensures c.in_ok-best.ensures.line c.loop-i.invariant.least;
 }
