@@ -7,9 +7,8 @@ ghost use Rattle.problem_core.specs.Corners.{NoNegativeValue, Point, StandsAt, a
 ghost use Rattle.problem_core.specs.Layout.{line_of_row};
 ghost use Rattle.certificates.specs.Errors.{IsErrorAt, IsLack};
 
-use corner::Corner;
-use corner_ends::product;
-use frac_core::{Frac, Wide};
+use corner_ends::Corner;
+use frac_core::{Frac, Wide, product};
 use problem_core::{Mark, Rel, Row, RowName, Side};
 
 // The mark of a row.

@@ -3,12 +3,12 @@ ghost use Rattle.std.specs.Prelude.{◌≡◌, ◌++◌, ℕ, ℤ, [], ◌∷◌
 ghost use Rattle.frac_core.specs.Fraction.{IsFitting};
 ghost use Rattle.problem_core.specs.declared.parts.RowName.{RowName as NameOfRow};
 ghost use Rattle.cert_checker.specs.LinePlaces.{names};
-ghost use Rattle.corner.specs.Views.{IsInUse, IsNamed};
+ghost use Rattle.corner_ends.specs.Views.{IsInUse, IsNamed};
 ghost use Rattle.certificates.specs.OwnLevels.{nonzero_times};
 ghost use Rattle.certificates.specs.Reading.{AreNumbersAt};
 
 use cert_core::By;
-use corner::Corner;
+use corner_ends::Corner;
 use frac_core::OutOfMemory;
 use problem_core::{Level, RowName};
 use std::alloc::Global;

@@ -1,5 +1,5 @@
 -- What a linear line means, for a list of views and a list of metrics.
-use Rattle.std.specs.Prelude.{◌≡◌, ℕ, ◌*◌, ◌<◌, ◌≤◌, List, [], ◌∷◌, ◌++◌, map, Option}
+use Rattle.std.specs.Prelude.{◌≡◌, ℕ, ◌*◌, ◌/◌, ◌<◌, ◌≤◌, List, [], ◌∷◌, ◌++◌, map, Option}
 use Rattle.std.specs.Prelude.{Some, None, is_some, Bool, true, false, ◌||◌, pos, ◌*ℤ◌}
 use Rattle.std.specs.List.{list_any}
 use Rattle.std.specs.Option.{option_or, option_map, option_to_list}
@@ -19,6 +19,7 @@ use Rattle.script_text.specs.Meaning.{Operand, Linear}
 use Rattle.script_text.specs.Meaning as mean
 use Rattle.view_tree.specs.Attributes.{left_of, top_of, width_of, height_of}
 use Rattle.compile_parts.specs.Fractions.{times, negated, total}
+use Rattle.compile_parts.specs.declared.shares.AttrSum.{AttrSum}
 
 -- the metrics with their values
 abbrev pub MetricList : Type 0
@@ -26,28 +27,49 @@ MetricList = List (List ℕ × Fraction)
 
 -- ---- attributes
 
--- so many times the left, and so many times the width, of a view
-abbrev pub horizontal : ℕ → ℕ → ℕ → List Term
-horizontal view edge size = record { attr = left_of view; by = pos edge }
-    ∷ record { attr = width_of view; by = pos size } ∷ []
+-- so many times the left and so many times the width of a view, over the scale
+abbrev pub across : ℕ → ℕ → ℕ → AttrSum
+across scale edge size = record { scale = scale; edge = edge; size = size; is_across = true }
 
--- so many times the top, and so many times the height, of a view
-abbrev pub vertical : ℕ → ℕ → ℕ → List Term
-vertical view edge size = record { attr = top_of view; by = pos edge }
-    ∷ record { attr = height_of view; by = pos size } ∷ []
+-- so many times the top and so many times the height of a view, over the scale
+abbrev pub down : ℕ → ℕ → ℕ → AttrSum
+down scale edge size = record { scale = scale; edge = edge; size = size; is_across = false }
+
+-- an attribute by the attributes that are kept, with the least scale for which both factors are whole
+abbrev pub attr_sum : AttrWord → AttrSum
+attr_sum word.Left = across 1 1 0
+attr_sum word.Leading = across 1 1 0
+attr_sum word.Right = across 1 1 1
+attr_sum word.Trailing = across 1 1 1
+attr_sum word.CenterX = across 2 2 1
+attr_sum word.Width = across 1 0 1
+attr_sum word.Top = down 1 1 0
+attr_sum word.Bottom = down 1 1 1
+attr_sum word.CenterY = down 2 2 1
+attr_sum word.Height = down 1 0 1
+
+-- the edge of a view, across or down
+abbrev pub edge_in : Bool → ℕ → ℕ
+edge_in true view = left_of view
+edge_in false view = top_of view
+
+-- the size of a view, across or down
+abbrev pub size_in : Bool → ℕ → ℕ
+size_in true view = width_of view
+size_in false view = height_of view
+
+-- so many times the edge, and so many times the size, of a view
+abbrev pub edge_and_size : Bool → ℕ → ℕ → ℕ → List Term
+edge_and_size is_across view edge size = record { attr = edge_in is_across view; by = pos edge }
+    ∷ record { attr = size_in is_across view; by = pos size } ∷ []
+
+-- twice the attribute that is this sum
+abbrev pub twice : AttrSum → ℕ → List Term
+twice s view = edge_and_size s.is_across view (2 / s.scale * s.edge) (2 / s.scale * s.size)
 
 -- twice an attribute of a view, by the attributes that are kept
 abbrev pub doubled : ℕ → AttrWord → List Term
-doubled view word.Left = horizontal view 2 0
-doubled view word.Leading = horizontal view 2 0
-doubled view word.Right = horizontal view 2 2
-doubled view word.Trailing = horizontal view 2 2
-doubled view word.CenterX = horizontal view 2 1
-doubled view word.Width = horizontal view 0 2
-doubled view word.Top = vertical view 2 0
-doubled view word.Bottom = vertical view 2 2
-doubled view word.CenterY = vertical view 2 1
-doubled view word.Height = vertical view 0 2
+doubled view w = twice (attr_sum w) view
 
 -- ---- terms
 

@@ -32,7 +32,9 @@ mod wide;
 pub use addends::Addend;
 pub use limits::{ADDEND_LIMIT, CONSTANT_LIMIT, constants_are_as_said};
 pub use resolved::{Resolved, resolve, resolve_rank};
-pub use shares::{Doubled, Share, attributes, id_named, share_at, times};
+pub use shares::{
+    AttrSum, EdgeAndSize, Share, attr_sum, attributes, edge_and_size, id_named, share_at,
+};
 pub use steps::{Part, Step, constant_after, name_at};
 pub use stops::{CompileStop, KindWord, LargeConstant};
 pub use wide::ratios::{Ratio, small_of};

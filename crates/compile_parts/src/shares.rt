@@ -8,7 +8,7 @@ ghost use Rattle.problem_core.specs.Kept.{IsNumber};
 ghost use Rattle.view_tree.specs.declared.limits.TheConstants.{ID_LIMIT};
 ghost use Rattle.compile_parts.specs.Meaning as meaning;
 ghost use Rattle.compile_parts.specs.Addends.{addend_view, IsKept};
-ghost use Rattle.compile_parts.specs.Shares.{form, share_fraction, AreHalves, IsOff};
+ghost use Rattle.compile_parts.specs.Shares.{form, share_fraction, AreHalves, IsAttrSum, IsOff};
 
 use crate::addends::Addend;
 use frac_core::{Frac, OutOfMemory};
@@ -17,22 +17,22 @@ use script_text::AttrWord;
 use std::alloc::Global;
 use view_tree::{Tree, ViewId};
 
-/// Twice an attribute, by an edge and a size that are kept.
+/// So many times an edge, and so many times a size, of a view.
 #[derive(Clone, Copy)]
-pub struct Doubled {
+pub struct EdgeAndSize {
     pub edge: Term,
     pub size: Term,
 }
 
-/// So many times half of a sum of attributes.
+/// So many times half of such a sum.
 #[derive(Clone, Copy)]
 pub struct Share {
     pub by: Frac,
-    pub of: Doubled,
+    pub of: EdgeAndSize,
 }
 
-/// So many times an attribute.
-pub fn times(attr: u32, by: u8) -> Term
+// So many times an attribute.
+fn times(attr: u32, by: u8) -> Term
     ensures { result ≡ record { attr = attr; by = pos by } }
 {
     Term {
@@ -41,46 +41,87 @@ pub fn times(attr: u32, by: u8) -> Term
     }
 }
 
-fn horizontal(view: ViewId, edge: u8, size: u8) -> Doubled
-    requires { view.0 < ID_LIMIT }
-    ensures { form result ≡ meaning.horizontal view.0 edge size }
+/// An attribute, by the attributes that are kept: `scale` times the attribute is `edge` times an edge plus
+/// `size` times a size, with the least such scale. The edge and the size are the left and the width of the
+/// view, or its top and its height.
+#[derive(Clone, Copy)]
+pub struct AttrSum {
+    pub scale: u8,
+    pub edge: u8,
+    pub size: u8,
+    pub is_across: bool,
+}
+
+fn across(scale: u8, edge: u8, size: u8) -> AttrSum
+    ensures { result ≡ meaning.across scale edge size }
 {
-    let of = view.attributes();
-    Doubled {
-        edge: times(of.left, edge),
-        size: times(of.width, size),
+    AttrSum {
+        scale,
+        edge,
+        size,
+        is_across: true,
     }
 }
 
-fn vertical(view: ViewId, edge: u8, size: u8) -> Doubled
+fn down(scale: u8, edge: u8, size: u8) -> AttrSum
+    ensures { result ≡ meaning.down scale edge size }
+{
+    AttrSum {
+        scale,
+        edge,
+        size,
+        is_across: false,
+    }
+}
+
+/// The attribute as a sum of those that are kept.
+pub fn attr_sum(word: AttrWord) -> AttrSum
+    ensures sum { result ≡ meaning.attr_sum word }
+    ensures kept { IsAttrSum result }
+{
+    match word {
+        AttrWord::Left | AttrWord::Leading => across(1, 1, 0),
+        AttrWord::Right | AttrWord::Trailing => across(1, 1, 1),
+        AttrWord::CenterX => across(2, 2, 1),
+        AttrWord::Width => across(1, 0, 1),
+        AttrWord::Top => down(1, 1, 0),
+        AttrWord::Bottom => down(1, 1, 1),
+        AttrWord::CenterY => down(2, 2, 1),
+        AttrWord::Height => down(1, 0, 1),
+    }
+}
+
+/// So many times the edge, and so many times the size, of a view.
+pub fn edge_and_size(is_across: bool, view: ViewId, edge: u8, size: u8) -> EdgeAndSize
     requires { view.0 < ID_LIMIT }
-    ensures { form result ≡ meaning.vertical view.0 edge size }
+    ensures form { form result ≡ meaning.edge_and_size is_across view.0 edge size }
+    ensures edge { IsNumber result.edge.attr }
+    ensures size { IsNumber result.size.attr }
+    ensures rising { result.edge.attr < result.size.attr }
 {
     let of = view.attributes();
-    Doubled {
-        edge: times(of.top, edge),
-        size: times(of.height, size),
+    if is_across {
+        EdgeAndSize {
+            edge: times(of.left, edge),
+            size: times(of.width, size),
+        }
+    } else {
+        EdgeAndSize {
+            edge: times(of.top, edge),
+            size: times(of.height, size),
+        }
     }
 }
 
 // Twice an attribute of a view.
-fn twice(view: ViewId, word: AttrWord) -> Doubled
+fn twice(view: ViewId, word: AttrWord) -> EdgeAndSize
     requires { view.0 < ID_LIMIT }
     ensures form { form result ≡ meaning.doubled view.0 word }
     ensures halves { AreHalves result }
 {
-    match word {
-        AttrWord::Left => horizontal(view, 2, 0),
-        AttrWord::Leading => horizontal(view, 2, 0),
-        AttrWord::Right => horizontal(view, 2, 2),
-        AttrWord::Trailing => horizontal(view, 2, 2),
-        AttrWord::CenterX => horizontal(view, 2, 1),
-        AttrWord::Width => horizontal(view, 0, 2),
-        AttrWord::Top => vertical(view, 2, 0),
-        AttrWord::Bottom => vertical(view, 2, 2),
-        AttrWord::CenterY => vertical(view, 2, 1),
-        AttrWord::Height => vertical(view, 0, 2),
-    }
+    let sum = attr_sum(word);
+    let by = 2 / sum.scale;
+    edge_and_size(sum.is_across, view, by * sum.edge, by * sum.size)
 }
 
 /// The live view of this name, if there is one. The name is looked up in the tree.

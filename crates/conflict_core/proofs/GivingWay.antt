@@ -11,7 +11,7 @@ use Rattle.problem_core.specs.Kept.{IsWhole}
 use Rattle.problem_core.specs.Numbers.{AreNumbersOf}
 use Rattle.corner.specs.Shifts.Shifting.{IsNear}
 use Rattle.corner_lines.specs.Shifts.{IsShift, has_constant, with_constant}
-use Rattle.corner.proofs.Shifts.ShiftLines.{shift_whole}
+use Rattle.corner_table.proofs.Seen.ShiftedLines.{shift_whole}
 use Rattle.layout_solver.proofs.BestValues.{attrs-at}
 use Rattle.corner_lines.proofs.ProblemChanges.Shifted.{changed, same-id, shift-off, shift-on}
 use Rattle.layout_solver.specs.declared.engine.Change.{Change}

@@ -7,7 +7,6 @@ pub mod OwnRows
 pub mod Naming
 pub mod Narrowing
 pub mod GivingWay
-pub mod Joining
 pub mod Outcomes
 pub mod CoreLaws
 pub mod CoreStops

@@ -2,7 +2,7 @@
 use Rattle.std.proofs.Common.{◌≡◌, ◌∙◌, ℕ, ◌<◌, List, filter, length, sym, ap, ap₂, subst, arith}
 use Rattle.problem_core.specs.Layout.{Problem, Row}
 use Rattle.problem_core.specs.Kept.{IsWhole}
-use Rattle.version_list.specs.declared.TheConstants.{VERSION_LIMIT}
+use Rattle.version_lists.specs.declared.versions.TheConstants.{VERSION_LIMIT}
 use Rattle.layout_solver.specs.Layouts.{Layout, with_added}
 use Rattle.layout_solver.specs.Starts.{attrs_of}
 use Rattle.conflict_core.specs.Cores.{is_tried, trial}

@@ -3,6 +3,6 @@ pub mod Shown
 pub mod Trials
 pub mod Searches
 pub mod Yielding
-pub mod Nearby
+pub mod Asking
 pub mod Laws
 pub mod Instances

@@ -1,26 +1,27 @@
 // What the required rows of a problem come to.
 ghost use Rattle.std.specs.Prelude.{◌≡◌, ◌<◌, ℕ, List, length, map, IfOk, IfErr};
-ghost use Rattle.version_list.specs.declared.TheConstants.{VERSION_LIMIT};
+ghost use Rattle.version_lists.specs.declared.versions.TheConstants.{VERSION_LIMIT};
 ghost use Rattle.problem_core.specs.Certificates.{required};
 ghost use Rattle.cert_core.specs.Stops.{IsShownConflict};
+ghost use Rattle.layout_solver.specs.Requests.{CanSolve, posed_by};
 ghost use Rattle.conflict_core.specs.Cores.{trial};
 ghost use Rattle.conflict_core.specs.Shown.{IsFound};
 ghost use Rattle.conflict_core.specs.Searches.{AreTrials};
 ghost use Rattle.conflict_core.specs.Trials.{IsCoreStop, nothing};
 
+use crate::asking::{Known, asked};
 use crate::found::{CoreStop, Found};
 use crate::listing::{attributes, required_rows};
-use crate::nearby::{Known, asked};
 use crate::search::{begun, searched};
 use crate::trials::{Outcome, Trials, tried};
 use crate::yielding::hasten;
 use cert_core::Conflict;
-use layout_solver::Engine;
+use layout_solver::{Engine, Request};
 use problem_core::{Problem, numbers_of};
 use std::alloc::Global;
 
 // A core of the rows that these multipliers name, which refute some required rows.
-fn found_among(alloc: Global, e: &mut Engine, t: &Trials, by: Conflict) -> Result<Found, CoreStop>
+fn found_among(e: &mut Engine, t: &Trials, by: Conflict) -> Result<Found, CoreStop>
     requires nothing { e.old ≡ nothing }
     requires trials { AreTrials t.now }
     requires refuted { (ids : List ℕ) × IsShownConflict (trial t.now.problem.now ids) by }
@@ -28,13 +29,13 @@ fn found_among(alloc: Global, e: &mut Engine, t: &Trials, by: Conflict) -> Resul
     ensures stop { IfErr result (IsCoreStop t.now.problem.now t.now.budget) }
 {
     t.problem.show_whole(); // for the proof: what a problem keeps
-    let mut s = begun(alloc, by)?;
-    hasten(alloc, t, &mut s)?;
-    searched(alloc, e, t, s)
+    let mut s = begun(t.alloc, by)?;
+    hasten(t, &mut s)?;
+    searched(e, t, s)
 }
 
 // What all required rows come to, which are these.
-fn found_of(alloc: Global, e: &mut Engine, t: &Trials, all: &[u32]) -> Result<Found, CoreStop>
+fn found_of(e: &mut Engine, t: &Trials, all: &[u32]) -> Result<Found, CoreStop>
     requires nothing { e.old ≡ nothing }
     requires trials { AreTrials t.now }
     requires all { all.now ≡ map (λ r. r.id) (required t.now.problem.now) }
@@ -42,34 +43,34 @@ fn found_of(alloc: Global, e: &mut Engine, t: &Trials, all: &[u32]) -> Result<Fo
     ensures stop { IfErr result (IsCoreStop t.now.problem.now t.now.budget) }
 {
     t.problem.show_whole(); // for the proof: what a problem keeps
-    match tried(alloc, e, t, all)? {
+    match tried(e, t, all)? {
         Outcome::Solved(_) => Ok(Found::Solvable),
-        Outcome::Refuted(by) => found_among(alloc, e, t, by),
+        Outcome::Refuted(by) => found_among(e, t, by),
     }
 }
 
 // The same on a new engine.
-fn found_anew(alloc: Global, t: &Trials, all: &[u32]) -> Result<Found, CoreStop>
+fn found_anew(t: &Trials, all: &[u32]) -> Result<Found, CoreStop>
     requires trials { AreTrials t.now }
     requires all { all.now ≡ map (λ r. r.id) (required t.now.problem.now) }
     ensures found { IfOk result (IsFound t.now.problem.now) }
     ensures stop { IfErr result (IsCoreStop t.now.problem.now t.now.budget) }
 {
-    let mut engine = Engine::new(alloc)?;
-    let found = found_of(alloc, &mut engine, t, all);
+    let mut engine = Engine::new(t.alloc)?;
+    let found = found_of(&mut engine, t, all);
     drop(engine); // for the proof: moved on, not taken apart here
     found
 }
 
 // A core of the rows that these multipliers name, on a new engine.
-fn found_anew_among(alloc: Global, t: &Trials, by: Conflict) -> Result<Found, CoreStop>
+fn found_anew_among(t: &Trials, by: Conflict) -> Result<Found, CoreStop>
     requires trials { AreTrials t.now }
     requires refuted { (ids : List ℕ) × IsShownConflict (trial t.now.problem.now ids) by }
     ensures found { IfOk result (IsFound t.now.problem.now) }
     ensures stop { IfErr result (IsCoreStop t.now.problem.now t.now.budget) }
 {
-    let mut engine = Engine::new(alloc)?;
-    let found = found_among(alloc, &mut engine, t, by);
+    let mut engine = Engine::new(t.alloc)?;
+    let found = found_among(&mut engine, t, by);
     drop(engine); // for the proof: moved on, not taken apart here
     found
 }
@@ -88,12 +89,13 @@ pub fn core(alloc: Global, p: &Problem, budget: u64) -> Result<Found, CoreStop>
     let numbers = numbers_of(alloc, p.stays())?;
     let all = required_rows(alloc, p)?;
     let trials = Trials {
+        alloc,
         problem: p,
         attrs: &attrs,
         numbers: &numbers,
         budget,
     };
-    found_anew(alloc, &trials, &all)
+    found_anew(&trials, &all)
 }
 
 /// A core of the rows that these multipliers name, which refute the problem. That spares the trial of all
@@ -109,28 +111,35 @@ pub fn core_among(alloc: Global, p: &Problem, by: Conflict, budget: u64) -> Resu
     let attrs = attributes(alloc, p)?;
     let numbers = numbers_of(alloc, p.stays())?;
     let trials = Trials {
+        alloc,
         problem: p,
         attrs: &attrs,
         numbers: &numbers,
         budget,
     };
-    found_anew_among(alloc, &trials, by)
+    found_anew_among(&trials, by)
 }
 
-/// The same as `core`, where an engine holds most of the problem's rows, or all of them with other constants.
-/// It is asked first, and is as before: its path to what it lacks is short, and ends at values, or at
-/// multipliers that name few rows. Whatever else it ends at, the search begins from nothing.
+/// The same as `core` for the problem of a request to an engine, which is asked first, and is as before: its
+/// path is short, and ends at values, or at multipliers that name few rows. If it stops in another way, the
+/// search begins from nothing.
 ///
 /// The stops are those of `core`.
-pub fn core_near(alloc: Global, e: &mut Engine, p: &Problem, budget: u64) -> Result<Found, CoreStop>
+pub fn core_of(
+    alloc: Global,
+    e: &mut Engine,
+    request: Request,
+    budget: u64,
+) -> Result<Found, CoreStop>
     requires room { length e.old.earlier < VERSION_LIMIT }
-    ensures found { IfOk result (IsFound p.now) }
-    ensures stop { IfErr result (IsCoreStop p.now budget) }
+    requires can { CanSolve e.old request }
+    ensures found { IfOk result (IsFound (posed_by e.old request)) }
+    ensures stop { IfErr result (IsCoreStop (posed_by e.old request) budget) }
     ensures same { e.new ≡ e.old }
 {
-    match asked(alloc, e, p, budget)? {
+    match asked(e, &request, budget)? {
         Known::Solvable => Ok(Found::Solvable),
-        Known::Refuted(by) => core_among(alloc, p, by, budget),
-        Known::Nothing => core(alloc, p, budget),
+        Known::Refuted(by) => core_among(alloc, &e.posed(request)?, by, budget),
+        Known::Nothing => core(alloc, &e.posed(request)?, budget),
     }
 }

@@ -17,19 +17,19 @@
 //! ```
 //!
 //! A trial is an addition of some required rows, and of all attributes at 0, to an engine that holds nothing
-//! ([`layout_solver::Engine::add`]), with the whole budget. The first one has all required rows. Where they
+//! ([`layout_solver::Request::Add`]), with the whole budget. The first one has all required rows. Where they
 //! clash, the multipliers name rows that clash by themselves, and from then on each trial leaves one of
 //! these out. If the others have a solution, its values are kept. If they clash too, their multipliers name
 //! still fewer rows. That ends when there are values without each row.
 //!
 //! Before that one engine is given all rows of the multipliers at once, where the first one gives way: its
 //! constant is moved by what the rows clash, so that all of them hold just so. From there each next row gives
-//! way in turn by a change of two constants ([`layout_solver::Engine::shift`]), which takes few exchanges or
+//! way in turn by a change of two constants ([`layout_solver::Request::Shift`]), which takes few exchanges or
 //! none. Where that stops, the trials go on.
 //!
-//! The first trial is the dearest. Who has multipliers already spares it ([`core_among`]), and so does who
-//! has an engine that holds most of the rows ([`core_near`]): from its corner the path to what it lacks is
-//! short, and ends at values or at multipliers. The engine is as before, and what it names is checked.
+//! The first trial is the dearest. Multipliers spare it ([`core_among`]), and so does an engine of which the
+//! problem is a request ([`core_of`]): it solves the request, which takes a short path to values or to
+//! multipliers, and goes back.
 //!
 //! | Clause | Says |
 //! |---|---|
@@ -48,20 +48,20 @@
 //!
 //! To read: `found` (what is answered), `listing` (rows and attributes of a problem), `trials` (one trial),
 //! `search` (from rows that clash to a core), `yielding` (values without each of them on one engine),
-//! `nearby` (what an engine says that holds most of the rows), `finding` ([`core`]), `laws`;
+//! `asking` (what an engine says of a request), `finding` ([`core`]), `laws`;
 //! `specs/Cores.antt` says what a core is, and `specs/Shown.antt` what shows one.
 #![tactic(auto)]
 
+mod asking;
 mod finding;
 mod found;
 mod laws;
 mod listing;
-mod nearby;
 mod search;
 mod trials;
 mod yielding;
 
-pub use finding::{core, core_among, core_near};
+pub use finding::{core, core_among, core_of};
 pub use found::{CoreStop, Found};
 pub use laws::{
     core_is_conflict, cores_are_found, found_decides, proper_parts_are_solvable, shown_is_core,

@@ -61,7 +61,7 @@ fn narrow(alloc: Global, s: &mut Search, by: Conflict) -> Result<(), OutOfMemory
 }
 
 // Tries the rows without the next one, for which there are no values yet.
-fn step(alloc: Global, e: &mut Engine, t: &Trials, s: &mut Search) -> Result<(), CoreStop>
+fn step(e: &mut Engine, t: &Trials, s: &mut Search) -> Result<(), CoreStop>
     requires nothing { e.old ≡ nothing }
     requires trials { AreTrials t.now }
     requires search { IsSearch t.now.problem.now s.old }
@@ -73,20 +73,15 @@ fn step(alloc: Global, e: &mut Engine, t: &Trials, s: &mut Search) -> Result<(),
 {
     t.problem.show_whole(); // for the proof: what a problem keeps
     let id = s.rows[s.without.len()];
-    let others = without(alloc, id, &s.rows)?;
-    match tried(alloc, e, t, &others)? {
+    let others = without(t.alloc, id, &s.rows)?;
+    match tried(e, t, &others)? {
         Outcome::Solved(values) => Ok(keep(s, id, values)?),
-        Outcome::Refuted(by) => Ok(narrow(alloc, s, by)?),
+        Outcome::Refuted(by) => Ok(narrow(t.alloc, s, by)?),
     }
 }
 
 /// The core to which a search comes.
-pub(crate) fn searched(
-    alloc: Global,
-    e: &mut Engine,
-    t: &Trials,
-    mut s: Search,
-) -> Result<Found, CoreStop>
+pub(crate) fn searched(e: &mut Engine, t: &Trials, mut s: Search) -> Result<Found, CoreStop>
     requires nothing { e.old ≡ nothing }
     requires trials { AreTrials t.now }
     requires search { IsSearch t.now.problem.now s }
@@ -94,7 +89,7 @@ pub(crate) fn searched(
     ensures stop { IfErr result (IsCoreStop t.now.problem.now t.now.budget) }
 {
     while s.without.len() < s.rows.len() {
-        step(alloc, e, t, &mut s)?;
+        step(e, t, &mut s)?;
     }
     let Search { rows, by, without } = s;
     Ok(Found::Core { rows, by, without })

@@ -4,22 +4,24 @@ ghost use Rattle.problem_core.specs.Gaps.{value_of};
 ghost use Rattle.problem_core.specs.Layout as layout;
 ghost use Rattle.problem_core.specs.Layout.{HasStay};
 ghost use Rattle.layout_solver.specs.Layouts.{solution_of};
+ghost use Rattle.layout_solver.specs.Requests.{run_of};
 ghost use Rattle.conflict_core.specs.Cores.{AreRequired, trial};
 ghost use Rattle.conflict_core.specs.Trials.{IsCoreStop, IsOutcome, IsStopOfTrial, nothing};
 ghost use Rattle.conflict_core.specs.Searches.{AreTrials};
 
 use crate::found::CoreStop;
 use crate::listing::tried_rows;
-use cert_core::{Conflict, RunStop};
+use cert_core::Conflict;
 use frac_core::{Frac, OutOfMemory};
-use layout_solver::Engine;
+use layout_solver::{Engine, Request, RequestStop};
 use problem_core::{Problem, Values};
 use std::alloc::Global;
 
 /// What is tried: a problem, its attributes in the order of their stays and by number, and the budget of each
-/// trial.
+/// trial; and where memory comes from.
 #[derive(Drop)]
 pub(crate) struct Trials<'a> {
+    pub alloc: Global,
     pub problem: &'a Problem,
     pub attrs: &'a [u32],
     pub numbers: &'a [u32],
@@ -33,19 +35,28 @@ pub(crate) enum Outcome {
     Refuted(Conflict),
 }
 
+/// A copy of the numbers.
+pub(crate) fn copied(alloc: Global, ids: &[u32]) -> Result<Vec<u32>, OutOfMemory>
+    ensures { IfOk result (λ held. held.items ≡ ids.now) }
+{
+    Ok(Vec::from_slice(alloc, ids)?)
+}
+
 // Adds all attributes and the rows of these numbers to an engine that holds nothing.
-fn add_rows(alloc: Global, e: &mut Engine, t: &Trials, ids: &[u32]) -> Result<(), RunStop>
+fn add_rows(e: &mut Engine, t: &Trials, ids: &[u32]) -> Result<(), RequestStop>
     requires nothing { e.old ≡ nothing }
     requires trials { AreTrials t.now }
     requires rising { AllPairs (λ a b. a < b) ids.now }
     ensures done { IfOk result (λ _. e.new.problem ≡ trial t.now.problem.now ids.now) }
     ensures earlier { IfOk result (λ _. e.new.earlier ≡ solution_of nothing ∷ []) }
-    ensures stop { IfErr result (IsStopOfTrial t.now.problem.now ids.now t.now.budget) }
+    ensures stop { IfErr result
+        (λ stop. IsStopOfTrial t.now.problem.now ids.now t.now.budget (run_of stop)) }
     ensures same { OnErr result (e.new ≡ nothing) }
 {
     t.problem.show_whole(); // for the proof: what a problem keeps
-    let rows = tried_rows(alloc, t.problem, ids)?;
-    e.add(t.attrs, &rows, t.budget)
+    let attrs = copied(t.alloc, t.attrs)?;
+    let rows = tried_rows(t.alloc, t.problem, ids)?;
+    e.solve(&Request::Add { attrs, rows }, t.budget)
 }
 
 // The value of an attribute.
@@ -83,43 +94,31 @@ fn taken(alloc: Global, e: &mut Engine, attrs: &[u32]) -> Result<Values, OutOfMe
     values
 }
 
-// A copy of the numbers.
-fn copied(alloc: Global, ids: &[u32]) -> Result<Vec<u32>, OutOfMemory>
-    ensures { IfOk result (λ held. held.items ≡ ids.now) }
-{
-    Ok(Vec::from_slice(alloc, ids)?)
-}
-
 // What the trial of these rows comes to, where the engine stopped so.
-fn outcome_of(alloc: Global, ids: &[u32], stop: RunStop) -> Result<Outcome, CoreStop>
+fn outcome_of(alloc: Global, ids: &[u32], stop: RequestStop) -> Result<Outcome, CoreStop>
     ensures refuted { IfOk result (λ outcome. (p : layout.Problem) (budget : ℕ)
-        → IsStopOfTrial p ids.now budget stop → IsOutcome p ids.now outcome) }
+        → IsStopOfTrial p ids.now budget (run_of stop) → IsOutcome p ids.now outcome) }
     ensures stop { IfErr result (λ other. (p : layout.Problem) (budget : ℕ) → AreRequired p ids.now
-        → IsStopOfTrial p ids.now budget stop → IsCoreStop p budget other) }
+        → IsStopOfTrial p ids.now budget (run_of stop) → IsCoreStop p budget other) }
 {
     match stop {
-        RunStop::Conflict(by) => Ok(Outcome::Refuted(by)),
-        RunStop::Unfit(at) => {
+        RequestStop::Conflict(by) => Ok(Outcome::Refuted(by)),
+        RequestStop::Unfit { at, .. } => {
             let held = copied(alloc, ids)?;
             Err(CoreStop::Unfit { held, at })
         }
-        RunStop::Spent(path) => {
+        RequestStop::Spent(path) => {
             let held = copied(alloc, ids)?;
             Err(CoreStop::Spent { held, path })
         }
-        RunStop::OutOfMemory => Err(CoreStop::OutOfMemory),
+        RequestStop::OutOfMemory => Err(CoreStop::OutOfMemory),
     }
 }
 
 /// What these required rows come to. The engine, which holds nothing, is as before.
 ///
-/// `Unfit` and `Spent` are those of [`Engine::add`], with these rows.
-pub(crate) fn tried(
-    alloc: Global,
-    e: &mut Engine,
-    t: &Trials,
-    ids: &[u32],
-) -> Result<Outcome, CoreStop>
+/// `Unfit` and `Spent` are those of [`Engine::solve`], where these rows are added.
+pub(crate) fn tried(e: &mut Engine, t: &Trials, ids: &[u32]) -> Result<Outcome, CoreStop>
     requires nothing { e.old ≡ nothing }
     requires trials { AreTrials t.now }
     requires rows { AreRequired t.now.problem.now ids.now }
@@ -127,11 +126,11 @@ pub(crate) fn tried(
     ensures stop { IfErr result (IsCoreStop t.now.problem.now t.now.budget) }
     ensures same { e.new ≡ nothing }
 {
-    match add_rows(alloc, e, t, ids) {
+    match add_rows(e, t, ids) {
         Ok(()) => {
             e.show_layout(); // for the proof: what an engine keeps
-            Ok(Outcome::Solved(taken(alloc, e, t.numbers)?))
+            Ok(Outcome::Solved(taken(t.alloc, e, t.numbers)?))
         }
-        Err(stop) => outcome_of(alloc, ids, stop),
+        Err(stop) => outcome_of(t.alloc, ids, stop),
     }
 }

@@ -1,5 +1,5 @@
 // One engine for all rows that clash: each in turn gives way by as much as they clash.
-ghost use Rattle.std.specs.Prelude.{◌≡◌, ◌<◌, [], ◌∷◌, length, IsTrue, AllPairs, Any, IfOk, IfSome};
+ghost use Rattle.std.specs.Prelude.{◌≡◌, ◌<◌, [], ◌∷◌, length, IsTrue, AllPairs, IfOk, IfSome};
 ghost use Rattle.frac_core.specs.Fraction.{IsFitting, IsKept};
 ghost use Rattle.layout_solver.specs.Shifts.{CanShift, shifted, with_shifts};
 ghost use Rattle.conflict_core.specs.Cores.{trial};
@@ -9,19 +9,12 @@ ghost use Rattle.conflict_core.specs.Yielding.{GivesWay, IsOwn, MayGet};
 
 use crate::listing::tried_rows;
 use crate::search::Search;
-use crate::trials::{Trials, values_of};
-use cert_core::{Conflict, RunStop};
+use crate::trials::{Trials, copied, values_of};
+use cert_core::Conflict;
 use frac_core::{Frac, OutOfMemory, PART_BOUND};
-use layout_solver::{Change, Engine};
-use problem_core::{Row, RowName};
+use layout_solver::{Change, Engine, Request, RequestStop};
+use problem_core::{Row, RowName, row_of};
 use std::alloc::Global;
-
-// The row of the number.
-fn row_of(rows: &[Row], id: u32) -> Option<&Row>
-    ensures { IfSome result (λ held. (held.now.id ≡ id) × Any (λ r. r ≡ held.now) rows.now) }
-{
-    rows.iter().find(|row| row.id() == id)
-}
 
 // The row of the number with its own constant.
 fn own(rows: &[Row], id: u32) -> Option<Change>
@@ -154,20 +147,33 @@ fn all_changed(alloc: Global, rows: &[Row], to: &Change) -> Result<Vec<Row>, Out
 }
 
 // Adds all attributes and the rows, of which one gives way, to an engine that holds nothing.
-fn begin(e: &mut Engine, t: &Trials, s: &Search, rows: &[Row], to: &Change) -> Result<(), RunStop>
+fn begin(
+    e: &mut Engine,
+    t: &Trials,
+    s: &Search,
+    rows: Vec<Row>,
+    to: &Change,
+) -> Result<(), RequestStop>
     requires nothing { e.old ≡ nothing }
     requires trials { AreTrials t.now }
-    requires rows { rows.now ≡ shifted (to.now ∷ []) (trial t.now.problem.now s.now.rows.items).rows }
+    requires rows { rows.items ≡ shifted (to.now ∷ []) (trial t.now.problem.now s.now.rows.items).rows }
     requires kept { IsKept to.now.constant }
     ensures { IfOk result (λ _. GivesWay t.now.problem.now s.now.rows.items to.now e.new) }
 {
     t.problem.show_whole(); // for the proof: what a problem keeps
-    e.add(t.attrs, rows, t.budget)?;
-    Ok(())
+    let attrs = copied(t.alloc, t.attrs)?;
+    e.solve(&Request::Add { attrs, rows }, t.budget)
+}
+
+// Two changes, in this order.
+fn both(alloc: Global, first: &Change, next: &Change) -> Result<Vec<Change>, OutOfMemory>
+    ensures { IfOk result (λ to. to.items ≡ first.now ∷ next.now ∷ []) }
+{
+    Ok(Vec::from_slice(alloc, &[*first, *next])?)
 }
 
 // Gives two rows other constants, and forgets the layout before that.
-fn shift_both(e: &mut Engine, first: &Change, next: &Change, budget: u64) -> Result<(), RunStop>
+fn shift_both(e: &mut Engine, t: &Trials, first: &Change, next: &Change) -> Result<(), RequestStop>
     requires earlier { length e.old.earlier ≡ 1 }
     requires held { CanShift e.old.problem (first.now ∷ next.now ∷ []) }
     requires rising { first.now.row < next.now.row }
@@ -176,7 +182,8 @@ fn shift_both(e: &mut Engine, first: &Change, next: &Change, budget: u64) -> Res
     ensures done { IfOk result (λ _. e.new.problem ≡ with_shifts e.old (first.now ∷ next.now ∷ [])) }
     ensures earlier { IfOk result (λ _. length e.new.earlier ≡ 1) }
 {
-    e.shift(&[*first, *next], budget)?;
+    let to = both(t.alloc, first, next)?;
+    e.solve(&Request::Shift(to), t.budget)?;
     e.forget();
     Ok(())
 }
@@ -209,7 +216,7 @@ fn is_next(e: &mut Engine, t: &Trials, s: &Search, rows: &[Row], last: &Change, 
     if !may_get_both(e.rows(), &back, to) {
         return false;
     }
-    let Ok(()) = shift_both(e, &back, to, t.budget) else {
+    let Ok(()) = shift_both(e, t, &back, to) else {
         return false;
     };
     true
@@ -227,13 +234,7 @@ fn next_yielded(s: &Search, clash: &Clash) -> Option<Change>
 }
 
 // Keeps the values of an engine, in which the next row gives way.
-fn keep_values(
-    alloc: Global,
-    e: &Engine,
-    t: &Trials,
-    s: &mut Search,
-    to: &Change,
-) -> Result<(), OutOfMemory>
+fn keep_values(e: &Engine, t: &Trials, s: &mut Search, to: &Change) -> Result<(), OutOfMemory>
     requires trials { AreTrials t.now }
     requires search { IsSearch t.now.problem.now s.old }
     requires next { IsNext s.old to.now.row }
@@ -243,15 +244,13 @@ fn keep_values(
     ensures nearer { IfOk result (λ _. left_of s.new < left_of s.old) }
 {
     e.show_layout(); // for the proof: what an engine keeps
-    let values = values_of(alloc, e, t.numbers)?;
+    let values = values_of(t.alloc, e, t.numbers)?;
     s.without.push((to.row, values))?;
     Ok(())
 }
 
-// Goes on from the row that gave way last to the others, as far as that comes to an end. It has six
-// parameters: what is found goes into the search, and what it is found by is lent.
+// Goes on from the row that gave way last to the others, as far as that comes to an end.
 fn go_on(
-    alloc: Global,
     e: &mut Engine,
     t: &Trials,
     s: &mut Search,
@@ -273,15 +272,14 @@ fn go_on(
         if !is_next(e, t, s, clash.rows, &last, &to) {
             return Ok(());
         }
-        keep_values(alloc, e, t, s, &to)?;
+        keep_values(e, t, s, &to)?;
         last = to;
     }
     Ok(())
 }
 
-// The first row gives way on an engine that holds nothing, then the others. Six parameters, as in `go_on`.
+// The first row gives way on an engine that holds nothing, then the others.
 fn give_way_from(
-    alloc: Global,
     e: &mut Engine,
     t: &Trials,
     s: &mut Search,
@@ -296,17 +294,16 @@ fn give_way_from(
     requires search { IsSearch t.now.problem.now s.old }
     ensures search { IfOk result (λ _. IsSearch t.now.problem.now s.new) }
 {
-    let rows = all_changed(alloc, clash.rows, first)?;
-    let Ok(()) = begin(e, t, s, &rows, first) else {
+    let rows = all_changed(t.alloc, clash.rows, first)?;
+    let Ok(()) = begin(e, t, s, rows, first) else {
         return Ok(());
     };
-    keep_values(alloc, e, t, s, first)?;
-    go_on(alloc, e, t, s, clash, first)
+    keep_values(e, t, s, first)?;
+    go_on(e, t, s, clash, first)
 }
 
 // The same on a new engine.
 fn give_way_anew(
-    alloc: Global,
     t: &Trials,
     s: &mut Search,
     clash: &Clash,
@@ -319,14 +316,14 @@ fn give_way_anew(
     requires search { IsSearch t.now.problem.now s.old }
     ensures search { IfOk result (λ _. IsSearch t.now.problem.now s.new) }
 {
-    let mut engine = Engine::new(alloc)?;
-    let given = give_way_from(alloc, &mut engine, t, s, clash, first);
+    let mut engine = Engine::new(t.alloc)?;
+    let given = give_way_from(&mut engine, t, s, clash, first);
     drop(engine); // for the proof: moved on, not taken apart here
     given
 }
 
 // The rows give way in turn, as far as numbers fit and that comes to an end.
-fn give_way(alloc: Global, t: &Trials, s: &mut Search, rows: &[Row]) -> Result<(), OutOfMemory>
+fn give_way(t: &Trials, s: &mut Search, rows: &[Row]) -> Result<(), OutOfMemory>
     requires trials { AreTrials t.now }
     requires rows { rows.now ≡ (trial t.now.problem.now s.old.rows.items).rows }
     requires next { length s.old.without.items < length s.old.rows.items }
@@ -341,18 +338,18 @@ fn give_way(alloc: Global, t: &Trials, s: &mut Search, rows: &[Row]) -> Result<(
     let Some(first) = next_yielded(s, &clash) else {
         return Ok(());
     };
-    give_way_anew(alloc, t, s, &clash, &first)
+    give_way_anew(t, s, &clash, &first)
 }
 
 /// Finds values without each row, as far as one engine shows them in which the rows give way in turn.
-pub(crate) fn hasten(alloc: Global, t: &Trials, s: &mut Search) -> Result<(), OutOfMemory>
+pub(crate) fn hasten(t: &Trials, s: &mut Search) -> Result<(), OutOfMemory>
     requires trials { AreTrials t.now }
     requires search { IsSearch t.now.problem.now s.old }
     ensures search { IfOk result (λ _. IsSearch t.now.problem.now s.new) }
 {
-    let rows = tried_rows(alloc, t.problem, &s.rows)?;
+    let rows = tried_rows(t.alloc, t.problem, &s.rows)?;
     if s.without.len() >= s.rows.len() {
         return Ok(());
     }
-    give_way(alloc, t, s, &rows)
+    give_way(t, s, &rows)
 }

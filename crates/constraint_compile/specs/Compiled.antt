@@ -54,12 +54,3 @@ pub record AreRowsNow (metrics : MetricList) (forms : List RowForm) (rows : List
   pub each : (i : ℕ) (f : RowForm) (r : Row) → i < length forms
       → IsRowNow metrics (slice_index_or forms i f) (slice_index_or rows i r)
   pub small : AreSmallForms metrics forms
-
--- the rows' constants for these metrics, in order
-pub record AreConstantsNow (metrics : MetricList) (forms : List RowForm)
-    (constants : List Fraction) : Type 0 where
-  pub long : length constants ≡ length forms
-  pub each : (i : ℕ) (f : RowForm) (c : Fraction) → i < length forms
-      → IsConstant (last_scale (slice_index_or forms i f).steps)
-      (step_sum metrics (slice_index_or forms i f).steps) (slice_index_or constants i c)
-  pub small : AreSmallForms metrics forms

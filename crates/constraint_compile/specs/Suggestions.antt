@@ -1,5 +1,6 @@
 -- The row of a suggestion: that an attribute of a view has a value.
-use Rattle.std.specs.Prelude.{◌≡◌, ℕ, ◌*◌, ◌<◌, ◌≤◌, List, [], ◌∷◌, Option, Some, None, pos}
+use Rattle.std.specs.Prelude.{ℕ, ◌*◌, ◌<◌, ◌≤◌, ◌==◌, if◌then◌else◌, List, [], ◌∷◌, ◌++◌}
+use Rattle.std.specs.Prelude.{Option, Some, None, pos}
 use Rattle.problem_core.specs.declared.parts.Rel.TheVariants.{Eq}
 use Rattle.problem_core.specs.declared.parts.Term.{Term}
 use Rattle.problem_core.specs.Layout.{Row}
@@ -9,9 +10,9 @@ use Rattle.span_text.specs.Objects as object
 use Rattle.span_text.specs.declared.limits.TheConstants.{UNIT}
 use Rattle.script_text.specs.Directions.{turned}
 use Rattle.script_text.specs.declared.words.AttrWord.{AttrWord}
-use Rattle.script_text.specs.declared.words.AttrWord.TheVariants as word
 use Rattle.view_tree.specs.declared.limits.TheConstants.{ID_LIMIT}
-use Rattle.view_tree.specs.Attributes.{left_of, top_of, width_of, height_of}
+use Rattle.compile_parts.specs.Meaning.{attr_sum, edge_in, size_in}
+use Rattle.compile_parts.specs.declared.shares.AttrSum.{AttrSum}
 use Rattle.constraint_compile.specs.declared.suggestion.Suggestion.{Suggestion}
 use Rattle.constraint_compile.specs.declared.suggestion.TheConstants.{USUAL_RANK}
 
@@ -21,29 +22,19 @@ one_term attr by = record { attr = attr; by = pos by }
 
 -- the number that makes the attribute's halves whole
 abbrev pub scale_of : AttrWord → ℕ
-scale_of word.Left = 1
-scale_of word.Top = 1
-scale_of word.Width = 1
-scale_of word.Height = 1
-scale_of word.Right = 1
-scale_of word.Bottom = 1
-scale_of word.CenterX = 2
-scale_of word.CenterY = 2
-scale_of word.Leading = 1
-scale_of word.Trailing = 1
+scale_of w = (attr_sum w).scale
+
+-- so many times the attribute of this number, unless that is 0
+abbrev pub some_term : ℕ → ℕ → List Term
+some_term attr by = if by == 0 then [] else one_term attr by ∷ []
+
+-- the sum in the attributes of the view v
+abbrev pub terms_in : ℕ → AttrSum → List Term
+terms_in v s = some_term (edge_in s.is_across v) s.edge ++ some_term (size_in s.is_across v) s.size
 
 -- so many times the attribute of the view v, by those that are kept
 abbrev pub suggested_terms : ℕ → AttrWord → List Term
-suggested_terms v word.Left = one_term (left_of v) 1 ∷ []
-suggested_terms v word.Top = one_term (top_of v) 1 ∷ []
-suggested_terms v word.Width = one_term (width_of v) 1 ∷ []
-suggested_terms v word.Height = one_term (height_of v) 1 ∷ []
-suggested_terms v word.Right = one_term (left_of v) 1 ∷ one_term (width_of v) 1 ∷ []
-suggested_terms v word.Bottom = one_term (top_of v) 1 ∷ one_term (height_of v) 1 ∷ []
-suggested_terms v word.CenterX = one_term (left_of v) 2 ∷ one_term (width_of v) 1 ∷ []
-suggested_terms v word.CenterY = one_term (top_of v) 2 ∷ one_term (height_of v) 1 ∷ []
-suggested_terms v word.Leading = one_term (left_of v) 1 ∷ []
-suggested_terms v word.Trailing = one_term (left_of v) 1 ∷ one_term (width_of v) 1 ∷ []
+suggested_terms v w = terms_in v (attr_sum w)
 
 -- the row with these terms
 abbrev pub with_terms : Suggestion → List Term → Row

@@ -1,8 +1,7 @@
 // What a line is compiled to: rows whose constants wait for the values of metrics.
 ghost use Rattle.std.specs.Prelude.{◌≡◌, ◌++◌, map, nat_eq, IfOk};
 ghost use Rattle.std.specs.List.{list_any};
-ghost use Rattle.std.specs.String.{string_bytes};
-ghost use Rattle.constraint_compile.specs.Inside.{form_view, compiled_line, IsForm, AreForms};
+ghost use Rattle.constraint_compile.specs.Inside.{form_view, compiled_line, AreForms};
 
 use compile_parts::Step;
 use frac_core::OutOfMemory;
@@ -76,15 +75,6 @@ impl Compiled {
         }
         Ok(())
     }
-
-    /// The same rows and views.
-    pub fn copy(&self, alloc: Global) -> Result<Compiled, OutOfMemory>
-        ensures { IfOk result (λ same. same ≡ self.now) }
-    {
-        let rows = copy_forms(alloc, &self.rows)?;
-        let views = Vec::from_slice(alloc, &self.views)?;
-        Ok(Compiled { rows, views })
-    }
 }
 
 fn has_view(views: &[ViewId], view: ViewId) -> bool
@@ -96,43 +86,4 @@ fn has_view(views: &[ViewId], view: ViewId) -> bool
         }
     }
     false
-}
-
-fn copy_names(alloc: Global, names: &[String]) -> Result<Vec<String>, OutOfMemory>
-    ensures { IfOk result (λ same. map string_bytes same.items ≡ map string_bytes names.now) }
-{
-    let mut same = Vec::with_capacity(alloc, names.len())?;
-    for name in names {
-        same.push(String::from_str(alloc, name.as_str())?)?;
-    }
-    Ok(same)
-}
-
-fn copy_form(alloc: Global, form: &RowForm) -> Result<RowForm, OutOfMemory>
-    requires { IsForm form.now }
-    ensures form { IfOk result IsForm }
-    ensures same { IfOk result (λ same. form_view same ≡ form_view form.now) }
-{
-    let names = copy_names(alloc, &form.names)?;
-    Ok(RowForm {
-        id: form.id,
-        rank: form.rank,
-        weight: form.weight,
-        rel: form.rel,
-        terms: Vec::from_slice(alloc, &form.terms)?,
-        names,
-        steps: Vec::from_slice(alloc, &form.steps)?,
-    })
-}
-
-fn copy_forms(alloc: Global, forms: &[RowForm]) -> Result<Vec<RowForm>, OutOfMemory>
-    requires { AreForms forms.now }
-    ensures forms { IfOk result (λ same. AreForms same.items) }
-    ensures same { IfOk result (λ same. map form_view same.items ≡ map form_view forms.now) }
-{
-    let mut same = Vec::with_capacity(alloc, forms.len())?;
-    for form in forms {
-        same.push(copy_form(alloc, form)?)?;
-    }
-    Ok(same)
 }

@@ -40,7 +40,6 @@ pub use line::compile_line;
 pub use line::rows::{Head, row_of_addends};
 pub use line::signs::negated;
 pub use naming::RowConstant;
-pub use rows::constants_now;
 pub use suggestion::{
     Suggestion, USUAL_RANK, constants_are_as_said, priority_or, suggested_constant,
 };

@@ -6,8 +6,7 @@ ghost use Rattle.problem_core.specs.Kept.{IsRow};
 ghost use Rattle.problem_core.specs.declared.limits.TheConstants.{COEFFICIENT_LIMIT};
 ghost use Rattle.compile_parts.specs.Fractions.{IsConstant};
 ghost use Rattle.compile_parts.specs.Steps.{AreSmallSteps};
-ghost use Rattle.constraint_compile.specs.Compiled.{AreSmallForms, AreRowsNow};
-ghost use Rattle.constraint_compile.specs.Compiled.{AreConstantsNow, IsRowNow};
+ghost use Rattle.constraint_compile.specs.Compiled.{AreRowsNow, AreSmallForms, IsRowNow};
 ghost use Rattle.compile_parts.specs.Steps.{step_sum, last_scale};
 ghost use Rattle.constraint_compile.specs.Inside.{form_view, IsRowWith, IsForm, AreForms};
 ghost use Rattle.compile_parts.specs.Keeps.{AreScalesKept, steps_view};
@@ -103,45 +102,9 @@ fn rows_of(
     Ok(Some(rows))
 }
 
-// The rows' constants for these metrics, in order, unless one is past the limit after a step.
-fn constants_of(
-    alloc: Global,
-    forms: &[RowForm],
-    metrics: &Metrics,
-) -> Result<Option<Vec<Frac>>, OutOfMemory>
-    requires { AreForms forms.now }
-    ensures constants { IfOk result (λ o. IfSome o (λ constants.
-        AreConstantsNow metrics.now (map form_view forms.now) constants.items)) }
-    ensures none { IfOk result (λ o. IfNone o (AreSmallForms metrics.now (map form_view forms.now) → ⊥)) }
-{
-    let mut constants = Vec::with_capacity(alloc, forms.len())?;
-    for form in forms {
-        let Some(constant) = constant_now(form, metrics) else {
-            return Ok(None);
-        };
-        constants.push(constant)?;
-    }
-    Ok(Some(constants))
-}
-
-/// The constant of each row of a line for these metrics, unless one is past the limit. A metric that isn't
-/// there counts as 0.
-pub fn constants_now(
-    alloc: Global,
-    c: &Compiled,
-    metrics: &Metrics,
-) -> Result<Vec<Frac>, Stop<LargeConstant>>
-    ensures constants { IfOk result (λ constants. AreConstantsNow metrics.now c.now.rows constants.items) }
-    ensures stop { IfErr result (IsConstantStop metrics.now c.now.rows) }
-{
-    match constants_of(alloc, c.forms(), metrics)? {
-        Some(constants) => Ok(constants),
-        None => Err(Stop::Refused(LargeConstant)),
-    }
-}
-
 impl Compiled {
-    /// The rows with their constants for these metrics; the rest as in `constants_now`.
+    /// The rows with their constants for these metrics, unless a constant is past the limit. A metric that
+    /// isn't there counts as 0.
     pub fn rows_now(
         &self,
         alloc: Global,

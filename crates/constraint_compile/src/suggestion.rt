@@ -2,14 +2,15 @@
 ghost use Rattle.std.specs.Prelude.{◌≡◌, ◌<◌, ◌≤◌, ◌*ℤ◌, pos, ◌∷◌, [], length, None, All, AllPairs};
 ghost use Rattle.std.specs.Prelude.{IfOk, IfErr, OnOk, IfSome, IfNone, OnSome};
 ghost use Rattle.frac_core.specs.Fraction.{IsFitting};
-ghost use Rattle.problem_core.specs.Kept.{IsNumber, IsTerm};
+ghost use Rattle.problem_core.specs.Kept.{IsTerm};
 ghost use Rattle.span_text.specs.Objects.{object_view};
 ghost use Rattle.compile_parts.specs.Fractions.{negated, IsConstant, IsSmallConstant};
-ghost use Rattle.constraint_compile.specs.Suggestions.{one_term, priority_or, scale_of, suggested_row};
+ghost use Rattle.compile_parts.specs.Shares.{IsAttrSum};
+ghost use Rattle.constraint_compile.specs.Suggestions.{priority_or, scale_of, suggested_row, terms_in};
 ghost use Rattle.constraint_compile.specs.Suggestions.{with_terms, IsSuggestion};
 ghost use Rattle.constraint_compile.specs.Constants.{ConstantsAreAsSaid};
 
-use compile_parts::{Ratio, small_of, times};
+use compile_parts::{AttrSum, Ratio, attr_sum, edge_and_size, small_of};
 use frac_core::{Frac, OutOfMemory};
 use problem_core::{Rel, Row, Term};
 use script_text::{AttrWord, Direction};
@@ -38,11 +39,7 @@ fn scale_of(word: AttrWord) -> u8
     ensures few { result ≤ 2 }
     ensures above { 0 < result }
 {
-    match word {
-        AttrWord::CenterX | AttrWord::CenterY => 2,
-        AttrWord::Left | AttrWord::Top | AttrWord::Width | AttrWord::Height => 1,
-        AttrWord::Right | AttrWord::Bottom | AttrWord::Leading | AttrWord::Trailing => 1,
-    }
+    attr_sum(word).scale
 }
 
 // The numerator times the attribute's scale.
@@ -100,25 +97,20 @@ impl Suggestion {
         )
     }
 
-    // The row of one attribute, once.
-    fn single(&self, alloc: Global, attr: u32) -> Result<Row, OutOfMemory>
+    // The row of this sum in the attributes of its view.
+    fn in_terms(&self, alloc: Global, sum: AttrSum) -> Result<Row, OutOfMemory>
         requires kept { IsSuggestion self.now }
-        requires attr { IsNumber attr }
-        ensures { IfOk result (λ row. row ≡ with_terms self.now (one_term attr 1 ∷ [])) }
+        requires sum { IsAttrSum sum }
+        ensures { IfOk result (λ row. row ≡ with_terms self.now (terms_in self.now.view sum)) }
     {
-        self.with_terms(alloc, &[times(attr, 1)])
-    }
-
-    // The row of so many times an edge, and a size.
-    fn pair(&self, alloc: Global, edge: u32, by: u8, size: u32) -> Result<Row, OutOfMemory>
-        requires kept { IsSuggestion self.now }
-        requires edge { IsNumber edge }
-        requires by { (0 < by) × (by ≤ 2) }
-        requires size { IsNumber size }
-        requires rising { edge < size }
-        ensures { IfOk result (λ row. row ≡ with_terms self.now (one_term edge by ∷ one_term size 1 ∷ [])) }
-    {
-        self.with_terms(alloc, &[times(edge, by), times(size, 1)])
+        let of = edge_and_size(sum.is_across, ViewId(self.view), sum.edge, sum.size);
+        if sum.size == 0 {
+            return self.with_terms(alloc, &[of.edge]);
+        }
+        if sum.edge == 0 {
+            return self.with_terms(alloc, &[of.size]);
+        }
+        self.with_terms(alloc, &[of.edge, of.size])
     }
 
     /// The row.
@@ -126,17 +118,7 @@ impl Suggestion {
         requires { IsSuggestion self.now }
         ensures { IfOk result (λ row. row ≡ suggested_row self.now) }
     {
-        let of = ViewId(self.view).attributes();
-        match self.word.turned(self.direction) {
-            AttrWord::Left | AttrWord::Leading => self.single(alloc, of.left),
-            AttrWord::Top => self.single(alloc, of.top),
-            AttrWord::Width => self.single(alloc, of.width),
-            AttrWord::Height => self.single(alloc, of.height),
-            AttrWord::Right | AttrWord::Trailing => self.pair(alloc, of.left, 1, of.width),
-            AttrWord::Bottom => self.pair(alloc, of.top, 1, of.height),
-            AttrWord::CenterX => self.pair(alloc, of.left, 2, of.width),
-            AttrWord::CenterY => self.pair(alloc, of.top, 2, of.height),
-        }
+        self.in_terms(alloc, attr_sum(self.word.turned(self.direction)))
     }
 }
 

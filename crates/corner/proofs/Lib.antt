@@ -1,11 +1,6 @@
 pub mod Corners
 pub mod Swaps
-pub mod Stays
-pub mod Orders
-pub mod Shifts
 pub mod Attributes
 pub mod Additions
-pub mod Removals
 pub mod Safety
-pub mod AstrayStays
 pub mod LowMarks

@@ -26,8 +26,8 @@ use Rattle.corner_writings.proofs.Readings.MovedFacts.{none_some}
 use Rattle.corner.specs.declared.safe.Safe.{Safe}
 use Rattle.corner.specs.declared.safe.Sides.{Sides}
 use Rattle.corner.specs.Safe.{AreSafe, IsNoted, ListsNone, listed_at}
-use Rattle.corner.specs.Shifts.Shifting.{IsShifted, with_shifted}
-use Rattle.corner.specs.Shifts.Stood.{AreFirstStood}
+use Rattle.corner_shifts.specs.Shifting.{IsShifted, with_shifted}
+use Rattle.corner_shifts.specs.Stood.{AreFirstStood}
 
 -- the lists with other rows, stays, standings and numbers
 abbrev pub with_others : List Row → List Stay → List Standing → List ℕ → List ℕ → Lists → Lists

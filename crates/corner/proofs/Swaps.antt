@@ -1,5 +1,4 @@
 -- What a corner keeps after an exchange of two lines, or a turn of one.
-pub mod ColumnReturns
 pub mod CandidatesAfter
 pub mod NextConsistent
 pub mod SettledNext

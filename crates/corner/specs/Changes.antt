@@ -1,11 +1,11 @@
 -- What the changes of a corner answer.
-use Rattle.std.specs.Prelude.{◌≡◌, List, [], ◌∷◌, map, All}
+use Rattle.std.specs.Prelude.{◌≡◌, List, [], ◌∷◌}
 use Rattle.problem_core.specs.Changes.Stops.{TableStop}
 use Rattle.frac_core.specs.declared.memory.Stop.TheVariants.{Refused, OutOfMemory as NoMemory}
-use Rattle.problem_core.specs.Corners.{attr_column}
-use Rattle.corner.specs.Views.{CornerView, HasValueAt, Scene}
+use Rattle.corner.specs.Views.{CornerView, Scene}
 pub use Rattle.corner_table.specs.Views.{HasNoNegative}
 pub use Rattle.corner_exchange.specs.Stops.{IsUnfitStop}
+pub use Rattle.corner_shifts.specs.Stood.{HasStood}
 pub use Rattle.corner_joins.specs.Stops.{AllSumsFit, FromAdded, IsAddStop}
 
 -- the scene of now
@@ -22,9 +22,3 @@ pub record IsRewound (old new : CornerView) : Type 0 where
 abbrev pub IsAsBefore : CornerView → CornerView → TableStop → Type 0
 IsAsBefore old new (Refused quantity) = new ≡ old
 IsAsBefore old new NoMemory = IsRewound old new
-
--- the problems have the same rows and attributes, and the new one's stays stand at the old one's values
-pub record HasStood (old new : CornerView) : Type 0 where
-  pub rows : new.problem.rows ≡ old.problem.rows
-  pub attrs : map (λ s. s.attr) new.problem.stays ≡ map (λ s. s.attr) old.problem.stays
-  pub targets : All (λ s. HasValueAt old.problem old.marks (attr_column s.attr) s.target) new.problem.stays

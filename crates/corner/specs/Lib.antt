@@ -1,10 +1,7 @@
 pub mod Views
 pub mod Changes
-pub mod Fronted
 pub mod Shifts
-pub mod Removals
 pub mod Settled
 pub mod Safe
-pub mod Astray
 pub mod Known
 pub mod Lows

@@ -1,3 +1,2 @@
--- How a row's constant changes, and how the stays move to the attributes' values.
-pub mod Stood
+-- Words for a changed constant, passed on from below.
 pub mod Shifting

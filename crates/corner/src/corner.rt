@@ -20,7 +20,7 @@ ghost use Rattle.problem_core.specs.declared.parts.Level as level_type;
 ghost use Rattle.problem_core.specs.declared.parts.RowName as row_type;
 ghost use Rattle.problem_core.specs.declared.stops.What as what_type;
 ghost use Rattle.problem_core.specs.declared.stops.What.TheVariants.{Mark as MarkOf};
-ghost use Rattle.version_list.specs.declared.TheConstants.{VERSION_LIMIT};
+ghost use Rattle.version_lists.specs.declared.versions.TheConstants.{VERSION_LIMIT};
 ghost use Rattle.corner.specs.Views.{AreCandidates, AreFrontsOf, AreMovers, HasNoFront, HasNumbers};
 ghost use Rattle.corner_writings.specs.Entries.{AreEntries};
 ghost use Rattle.corner_writings.specs.Growing.{AreGrowersDear};
@@ -35,19 +35,18 @@ ghost use Rattle.corner.specs.Changes.{IsRewound};
 ghost use Rattle.corner.specs.Changes.{IsUnfitStop, scene_of};
 ghost use Rattle.corner.specs.Lows.{AreNotLow, IsLowMark};
 ghost use Rattle.corner.specs.Settled.{IsSettledAt, IsSettledBy};
-ghost use Rattle.corner.specs.Astray.{NoneGoesAstray};
+ghost use Rattle.corner_shifts.specs.Astray.{NoneGoesAstray};
 ghost use Rattle.corner.specs.Known.{AreKnown};
 ghost use Rattle.corner_table.specs.declared.table.TheConstants.{LEVELS};
 ghost use Rattle.corner_laws.specs.Lifts.{with_rows};
 ghost use Rattle.corner_lines.specs.Joins.{with_attr};
-ghost use Rattle.corner.specs.Shifts.Shifting.{IsNear};
+ghost use Rattle.corner_shifts.specs.Shifting.{IsNear};
 ghost use Rattle.corner_lines.specs.Removals.{IsFree, without_attr, without_row};
 ghost use Rattle.corner_lines.specs.Shifts.{with_constant};
 ghost use Rattle.corner_exchange.specs.Swaps.NextLists.{AreMarksBy, AreMarksTurned};
 ghost use Rattle.corner_exchange.specs.Swaps.Exchanges.{CanExchange, IsPairStop};
 ghost use Rattle.corner_exchange.specs.Swaps.TurnedLevels.{CanTurnTo, IsTurnStop};
-ghost use Rattle.corner.specs.Removals.Dropping.{AreLeftListed, dropped};
-ghost use Rattle.corner.specs.Removals.Leaving.{IsLeaver, IsLevelLeft, marks_left, problem_left};
+ghost use Rattle.corner_leaving.specs.Leaving.{IsLeaver, marks_left, problem_left};
 ghost use Rattle.corner_table.specs.Tables as tables;
 ghost use Rattle.corner_table.specs.Tables.{Lists, lists_of, marks_at, problem_of};
 ghost use Rattle.corner_table.specs.Histories.{AreAlike, lists_before};
@@ -55,15 +54,14 @@ ghost use Rattle.stay_orders.specs.Orders.{fronted};
 ghost use Rattle.corner_table.specs.Invariants.{IsConsistent, IsEarlier, names_of, seen_of, view_of};
 ghost use Rattle.corner_table.specs.Kept.{HasSlotsLeft};
 
-use crate::fronting::front_stays;
 use crate::known::{Known, forget_known, nothing_known, shift_known, stand_known};
-use crate::leaving::dropping::{drop_line, drop_stay, list_left};
-use crate::leaving::{Leaver, Left, leaver_of, left_level};
 use crate::lows::low_mark;
 use crate::safe::{clear_safe, is_required, is_safe, note};
 use cert_core::RunStop;
 use corner_exchange::{exchange_of, put_exchange, put_turn, put_unlisted, turn_of, turn_unlisted};
 use corner_joins::{join_all, push_attr};
+use corner_leaving::{Leaver, leaver_of, left_level, put_left, take_attr};
+use corner_orders::put_front;
 use corner_packing::pack;
 use corner_table::{
     Listed, Table, attr_slot, back, forget, is_crowded, is_level, level_slot, line_slot, mark,
@@ -317,26 +315,6 @@ fn turn_safe(
     turn_stay(table, listed, known, line, side)
 }
 
-// Takes a row out of whose level this is left.
-fn put_left(
-    table: &mut Table,
-    listed: &mut Listed,
-    leaver: Leaver,
-    left: Left,
-) -> Result<(), OutOfMemory>
-    requires consistent { IsConsistent table.old listed.old }
-    requires leaver { (r : layout.Row) × IsLeaver (lists_of table.old) r leaver }
-    requires left { IsLevelLeft (lists_of table.old) leaver left }
-    ensures lists { OnOk result (lists_of table.new ≡ dropped (lists_of table.old) leaver left) }
-    ensures listed { OnOk result
-        (AreLeftListed (lists_of table.old) leaver.line listed.old listed.new) }
-    ensures before { lists_before table.new ≡ lists_before table.old }
-    ensures alike { AreAlike table.new }
-{
-    list_left(table, leaver.line, listed)?;
-    drop_line(table, leaver, left)
-}
-
 // Takes a row out whose mark is inside.
 fn take_row(table: &mut Table, listed: &mut Listed, leaver: Leaver) -> Result<(), TableStop>
     requires consistent { IsConsistent table.old listed.old }
@@ -358,37 +336,6 @@ fn take_row(table: &mut Table, listed: &mut Listed, leaver: Leaver) -> Result<()
         },
         Err(stop) => Err(not_made(table, listed, stop)),
     }
-}
-
-// Takes an attribute out that no row names, and its stay.
-fn take_attr(table: &mut Table, listed: &mut Listed, attr: u32) -> Result<(), OutOfMemory>
-    requires consistent { IsConsistent table.old listed.old }
-    requires free { IsFree (problem_of (lists_of table.old)) attr }
-    ensures consistent { OnOk result (IsConsistent table.new listed.new) }
-    ensures problem { OnOk result (problem_of (lists_of table.new)
-        ≡ without_attr attr (problem_of (lists_of table.old))) }
-    ensures marks { OnOk result (marks_at (lists_of table.new) ≡ marks_at (lists_of table.old)) }
-    ensures before { lists_before table.new ≡ lists_before table.old }
-    ensures alike { AreAlike table.new }
-{
-    listed.leave(attr_slot(table, attr));
-    listed.leave(line_slot(table, RowName::Stay(attr)));
-    drop_stay(table, attr)
-}
-
-// Puts the stays of these attributes before all others.
-fn put_front(table: &mut Table, listed: &mut Listed, attrs: &[u32]) -> Result<(), OutOfMemory>
-    requires consistent { IsConsistent table.old listed.old }
-    requires held { All (HasStay table.old.stays.items) attrs.now }
-    requires apart { AllPairs (λ a b. a ≢ b) attrs.now }
-    ensures consistent { OnOk result (IsConsistent table.new listed.new) }
-    ensures problem { OnOk result (problem_of (lists_of table.new)
-        ≡ fronted attrs.now (problem_of (lists_of table.old))) }
-    ensures marks { OnOk result (SameMarks (marks_at (lists_of table.new)) (marks_at (lists_of table.old))) }
-    ensures before { lists_before table.new ≡ lists_before table.old }
-    ensures alike { AreAlike table.new }
-{
-    front_stays(table, listed, attrs)
 }
 
 // Takes the slots of nothing out where there are as many of them as of something.

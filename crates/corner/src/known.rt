@@ -4,15 +4,14 @@ ghost use Rattle.frac_core.specs.Fraction as fraction;
 ghost use Rattle.corner_table.specs.Histories.{AreAlike, HasSameHistory, lists_before};
 ghost use Rattle.corner_table.specs.Kept.{IsKept};
 ghost use Rattle.corner_table.specs.Tables.{Lists, lists_of, problem_of};
-ghost use Rattle.corner.specs.Astray.{IsAstray};
 ghost use Rattle.corner.specs.Known.{AreKnown};
-ghost use Rattle.corner.specs.Shifts.Shifting.{IsNear, IsShifted, IsShiftedStop};
-ghost use Rattle.corner.specs.Shifts.Stood.{AreFirstStood};
+ghost use Rattle.corner_shifts.specs.Shifting.{IsNear, IsShifted, IsShiftedStop};
+ghost use Rattle.corner_shifts.specs.Stood.{AreFirstStood};
 
-use crate::astray::{Astray, all_stand, forget_astray, list_astray, none_astray};
 use crate::safe::{Safe, clear_safe, no_safe};
-use crate::shifting::shift_row;
-use crate::standing::{stand_listed, stand_stays};
+use corner_shifts::{
+    Astray, all_stand, forget_astray, list_astray, none_astray, shift_row, stand_astray,
+};
 use corner_table::{Table, line_slot};
 use frac_core::{Frac, OutOfMemory};
 use problem_core::{RowName, TableStop};
@@ -63,21 +62,6 @@ pub(crate) fn shift_known(
     let line = line_slot(table, RowName::Held(id));
     list_astray(table, &mut known.astray, line);
     shift_row(table, id, to)
-}
-
-// Gives the stays that may be astray the attributes' values as targets.
-fn stand_astray(table: &mut Table, astray: &Astray) -> Result<(), OutOfMemory>
-    requires kept { IsKept (lists_of table.old) }
-    requires astray { IsAstray (lists_of table.old) astray.now }
-    ensures past { HasSameHistory table.old table.new }
-    ensures lists { OnOk result (AreFirstStood (length table.old.stays.items) (lists_of table.old)
-        (lists_of table.new)) }
-{
-    if astray.is_known {
-        stand_listed(table, &astray.lines)
-    } else {
-        stand_stays(table)
-    }
 }
 
 /// Gives each stay that has moved its attribute's value as target.

@@ -45,24 +45,20 @@
 //! [`Corner::reduced`] a reduced cost at one level, and [`Corner::front`] the first of a mark's that isn't
 //! 0. [`Corner::swap`] is a pivot, for which the caller makes the ratio test.
 //!
-//! The lists are a `Table` of `corner_table`, of which `corner_writings` reads. `corner_exchange` goes to the
-//! next corner, `corner_joins` to that of a larger problem, and `corner_packing` takes slots of nothing out.
-//! To read: `shifting` goes to that with another constant, `standing` to that with other targets, `fronting`
-//! to that with another order of stays, `leaving`, with `leaving::freeing` and `leaving::dropping`, to that
-//! of a smaller problem; `known` keeps what need not be looked up again: `safe` the lines that are known to
-//! be safe to turn, `astray` the stays that may not stand at their targets; `lows` finds a line's mark with a
-//! negative value; and `corner` is what callers use.
+//! The lists are a `Table` of `corner_table`, of which `corner_writings` reads. Each change has a crate below
+//! this one: `corner_exchange` goes to the next corner, `corner_joins` to that of a larger problem,
+//! `corner_leaving` to that of a smaller one, `corner_shifts` to that with another constant or other targets,
+//! and `corner_orders` to that with another order of stays. `corner_packing` takes slots of nothing out.
+//!
+//! To read: `known` keeps what need not be looked up again: with `safe` the lines that are known to be safe
+//! to turn, and the stays that may not be at their targets; `lows` finds a line's mark with a negative value;
+//! and `corner` is what callers use.
 #![tactic(auto)]
 
-mod astray;
 mod corner;
-mod fronting;
 mod known;
-mod leaving;
 mod lows;
 mod safe;
-mod shifting;
-mod standing;
 
 pub use corner::Corner;
 pub use corner_writings::{Front, Fronts};

@@ -24,7 +24,7 @@ use Rattle.corner_ends.proofs.MarkOrders.{last_same, same_self, unfit_same}
 use Rattle.corner_ends.proofs.RunEnds.{spent_path}
 use Rattle.corner_ends.proofs.TieOrders.{tied_is_path}
 use Rattle.problem_core.proofs.Marks.{same-back as same_back, same-multipliers as same_multipliers}
-use Rattle.corner_joins.proofs.Additions.RowPaths.{same_trans as same_through}
+use Rattle.corner_table.proofs.Basics.MarkLists.{same_trans as same_through}
 use Rattle.corner_lines.proofs.LevelRows.SameLevels.{sound_same as sound-same}
 
 -- ---- a run of no exchange

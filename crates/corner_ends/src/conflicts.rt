@@ -1,5 +1,5 @@
 // The conflict that the multipliers of the required level show.
-ghost use Rattle.std.specs.Prelude.{◌≡◌, ◌≢◌, ◌⊎◌, ℕ, ◌<◌, ◌≤◌, ◌/◌, neg_ℤ, ◌*ℤ◌, pos, true, false, Any, All};
+ghost use Rattle.std.specs.Prelude.{◌≡◌, ◌≢◌, ◌⊎◌, ℕ, ◌<◌, ◌≤◌, ◌/◌, ◌*ℤ◌, pos, true, false, Any, All};
 ghost use Rattle.std.specs.Prelude.{IfOk, unsigned_abs};
 ghost use Rattle.std.specs.Int.{◌∣◌};
 ghost use Rattle.frac_core.specs.Fraction.{IsFitting};
@@ -16,7 +16,7 @@ ghost use Rattle.corner_ends.specs.Shares.{IsDivisor, IsGreatest};
 use crate::costs::{is_below, required_level};
 use cert_core::{By, Conflict, RunStop};
 use corner::Corner;
-use frac_core::{OutOfMemory, gcd};
+use frac_core::{OutOfMemory, gcd, opposite};
 use problem_core::{REQUIRED, Row, RowName};
 use std::alloc::Global;
 
@@ -86,15 +86,6 @@ fn size_share(times: i64, factor: u128) -> i64
     ensures fits { IsFitting result }
 {
     (u128::from(times.unsigned_abs()) / factor) as i64
-}
-
-// The number with the other sign.
-fn opposite(z: i64) -> i64
-    requires { IsFitting z }
-    ensures value { result ≡ neg_ℤ z }
-    ensures fits { IsFitting result }
-{
-    -z
 }
 
 // Whether the number is 0.

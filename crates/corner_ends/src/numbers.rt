@@ -1,5 +1,5 @@
 // Numbers that both runs read and compare.
-ghost use Rattle.std.specs.Prelude.{◌≡◌, ◌≤◌, ◌^◌, ◌*ℤ◌, unsigned_abs};
+ghost use Rattle.std.specs.Prelude.{◌≡◌};
 ghost use Rattle.problem_core.specs.Corners as corners;
 ghost use Rattle.problem_core.specs.Corners.{IsIn};
 ghost use Rattle.problem_core.specs.Layout.{coefficient};
@@ -18,12 +18,4 @@ pub fn coefficient_of(c: &Corner, m: Mark, enter: Mark) -> i64
 {
     c.show_corner(); // for the proof: what a corner keeps
     c.coefficient(What::Mark(m), enter)
-}
-
-/// The product of two numbers, in 128 bits.
-pub fn product(x: i64, y: i64) -> i128
-    ensures value { result ≡ x *ℤ y }
-    ensures small { unsigned_abs result ≤ 2 ^ 126 }
-{
-    i128::from(x) * i128::from(y)
 }

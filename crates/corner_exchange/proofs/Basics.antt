@@ -1,6 +1,4 @@
--- Names in lists, opposites, sums with signs and rows as equations.
-pub mod SmallFacts
-pub mod SameEquations
+-- Opposites, sums with signs and rows as equations.
 pub mod RowEquations
 pub mod SumTurns
 pub mod Opposites

@@ -10,3 +10,5 @@ pub mod TurnedFacts
 pub mod SwapSides
 pub mod LevelTurns
 pub mod TurnedChanges
+pub mod ColumnReturns
+pub mod ListedSlots

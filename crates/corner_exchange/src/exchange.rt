@@ -13,7 +13,7 @@ ghost use Rattle.row_core.specs.Rows.{IsKeptRow, IsReduced, coefficient};
 ghost use Rattle.frac_core.specs.declared.frac.Unfit as unfit_type;
 ghost use Rattle.frac_core.specs.declared.memory.Stop as stop_type;
 ghost use Rattle.frac_core.specs.Stops.{IsRefused};
-ghost use Rattle.indexed_rows.specs.Matrices.{IsBelow};
+ghost use Rattle.version_lists.specs.Matrices.{IsBelow};
 ghost use Rattle.corner_table.specs.Histories.{AreAlike, lists_before};
 ghost use Rattle.corner_exchange.specs.Swaps.LevelChanges as level_changes;
 ghost use Rattle.corner_table.specs.Reads.LevelNumbers.{IsCost, IsSlotOfLine};

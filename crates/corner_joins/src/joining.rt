@@ -34,7 +34,7 @@ ghost use Rattle.corner_table.specs.Joining.{IsStayForm, IsWithAttr, at_value, a
 ghost use Rattle.corner_table.specs.Joining.{slot_of_row, slot_of_stay, with_slot};
 ghost use Rattle.std.specs.Prelude.{◌/◌, ℤ, false, List, IfSome, IfNone};
 ghost use Rattle.frac_core.specs.declared.frac.TheConstants.{PART_BOUND};
-ghost use Rattle.indexed_rows.specs.Matrices.{IsBelow};
+ghost use Rattle.version_lists.specs.Matrices.{IsBelow};
 ghost use Rattle.problem_core.specs.declared.limits.TheConstants.{REQUIRED, ROW_LIMIT};
 ghost use Rattle.problem_core.specs.Layout as layout;
 ghost use Rattle.problem_core.specs.Levels.{IsCostAt};

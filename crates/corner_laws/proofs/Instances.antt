@@ -2,6 +2,7 @@
 pub mod Examples
 pub mod PathExamples
 pub mod BeginExamples
+pub mod FreedExamples
 pub mod Shown
 pub mod StopExamples
 pub mod ChoiceExamples

@@ -1,7 +1,6 @@
 pub mod PlaceFacts
 pub mod MovingFacts
 pub mod PackingFacts
-pub mod PastFacts
 pub mod PackedPlaces
 pub mod PackedSlots
 pub mod PackedRows

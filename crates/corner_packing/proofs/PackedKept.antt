@@ -15,8 +15,8 @@ use Rattle.corner_table.specs.declared.table.Standing.{Standing}
 use Rattle.corner_table.specs.Views.{IsNamed}
 use Rattle.corner_table.specs.Tables.{Lists, attr_slot, line_slot, marks_at, number, problem_of, row_at, standing_at}
 use Rattle.corner_table.specs.Kept.{IsAttrRow, IsEquationAt, IsKept, IsLineRow}
-use Rattle.corner_exchange.proofs.Basics.SameEquations.{same_numbers}
-use Rattle.corner_exchange.proofs.Basics.SmallFacts.{own_name, own_stay}
+use Rattle.corner_table.proofs.Basics.SameEquations.{same_numbers}
+use Rattle.corner_table.proofs.Basics.SmallFacts.{own_name, own_stay}
 use Rattle.corner_packing.specs.Packing.{ArePacked, ArePlaces, IsTaken}
 use Rattle.corner_packing.proofs.PackedPlaces.{IsPacking, after, after_is, attr_place, attr_taken, line_place, line_taken}
 use Rattle.corner_packing.proofs.PackedSlots.{packed_slots, packed_stored}

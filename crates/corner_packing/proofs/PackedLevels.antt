@@ -19,8 +19,8 @@ use Rattle.corner_table.specs.Kept.{HasStayRoom, IsLevelKept}
 use Rattle.corner_table.proofs.Basics.ListFacts.{to_map}
 use Rattle.corner_table.proofs.Readings.KeptFacts.{filter_same}
 use Rattle.corner_table.proofs.Readings.ReadFacts.{mark_named}
-use Rattle.corner_writings.proofs.Basics.OwnerFacts.{stay_named}
-use Rattle.corner_exchange.proofs.Basics.SmallFacts.{own_name}
+use Rattle.corner_table.proofs.Basics.OwnerFacts.{stay_named}
+use Rattle.corner_table.proofs.Basics.SmallFacts.{own_name}
 use Rattle.corner_packing.proofs.PackedPlaces.{IsPacking, after, line_place, line_taken}
 use Rattle.corner_packing.proofs.PackedRows.{entry_there, line_standing, number_there}
 

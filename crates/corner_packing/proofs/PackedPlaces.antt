@@ -18,7 +18,7 @@ use Rattle.corner_table.specs.Kept.{AreSlots, IsKept, IsSlot}
 use Rattle.corner_table.specs.Tables.{no_slot}
 use Rattle.corner_table.proofs.Readings.WritingFacts.{attr_owner, line_owner}
 use Rattle.corner_table.proofs.Readings.SlotFacts.{named_stay}
-use Rattle.corner_writings.proofs.Basics.OwnerFacts.{line-like, past-slots}
+use Rattle.corner_table.proofs.Basics.OwnerFacts.{line-like, past-slots}
 use Rattle.corner_packing.specs.Packing.{ArePacked, ArePlaces, IsTaken, packed_slot}
 
 -- the lists u are those of t with the slots that are taken at their places

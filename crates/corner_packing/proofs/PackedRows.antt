@@ -14,8 +14,8 @@ use Rattle.corner_table.specs.Views.{IsNamed}
 use Rattle.corner_table.specs.Tables.{Lists, entry, line_slot, number, problem_of, row_at, slot_at, standing_at}
 use Rattle.corner_table.specs.Kept.{AreOutside, IsKept}
 use Rattle.corner_table.proofs.Readings.KeptFacts.{row_kept}
-use Rattle.corner_exchange.specs.Swaps.Exchanges.{IsOutsideSlot}
-use Rattle.corner_writings.proofs.Basics.OwnerFacts.{line-like}
+use Rattle.corner_table.specs.Kept.{IsOutsideSlot}
+use Rattle.corner_table.proofs.Basics.OwnerFacts.{line-like}
 use Rattle.corner_packing.specs.Packing.{IsTaken}
 use Rattle.corner_packing.proofs.PackedPlaces.{IsPacking, after, line_place, line_taken, owner_taken, owner_there, same_slot, same_test, slot_there, where_is}
 

@@ -16,9 +16,9 @@ use Rattle.corner_table.specs.declared.table.TheConstants.{LEVELS, OWN_RANK}
 use Rattle.corner_table.specs.Views.{IsNamed}
 use Rattle.corner_table.specs.Tables.{Lists, attr_slot, line_slot, problem_of, slot_at, stay_rank}
 use Rattle.corner_table.specs.Kept.{AreSlots, AreStored, IsAttrSlot, IsKept, IsLineSlot, IsOwned, IsSlot, IsStayOwner, home_of}
-use Rattle.corner_exchange.proofs.Basics.SmallFacts.{own_name, own_stay}
+use Rattle.corner_table.proofs.Basics.SmallFacts.{own_name, own_stay}
 use Rattle.corner_table.proofs.Readings.WritingFacts.{line_owner}
-use Rattle.corner_writings.proofs.Basics.OwnerFacts.{stay_named}
+use Rattle.corner_table.proofs.Basics.OwnerFacts.{stay_named}
 use Rattle.corner_packing.specs.Packing.{ArePlaces, IsTaken, packed_rank, packed_slot}
 use Rattle.corner_packing.proofs.PackedPlaces.{IsPacking, after, attr_place, attr_taken, later_slot, line_place, line_taken, line_there, owner_there, past_place, slot_high, slot_there, taken_owner, taken_within, where_is}
 

@@ -5,14 +5,14 @@ use Rattle.std.proofs.lemmas.List.{get_or_past, get_or-set_same, get_or-set_othe
 use Rattle.std.proofs.lemmas.List.Elements.{All-get_or, All-from_get_or, All-from_recursion}
 use Rattle.std.proofs.lemmas.Bool.Decides.{eqb_tells, leb_tells}
 use Rattle.frac_core.specs.Fraction.{IsKept as IsKeptFraction}
-use Rattle.number_slots.specs.Numbers.{AreRenumbered}
+use Rattle.version_lists.specs.Numbers.{AreRenumbered}
 use Rattle.row_core.specs.Rows.{Term, IsKeptRow, coefficient}
 use Rattle.row_core.specs.Renames.{AreKeptApart, place_in, renamed}
 use Rattle.row_core.proofs.Renames.{renamed_below, renamed_kept}
-use Rattle.indexed_rows.specs.Indexes.{row_at}
-use Rattle.indexed_rows.specs.Lists.{HasColumn}
-use Rattle.indexed_rows.specs.Matrices.{IsBelow}
-use Rattle.indexed_rows.proofs.Indexing.{number_at_column}
+use Rattle.version_lists.specs.Indexes.{row_at}
+use Rattle.version_lists.specs.Lists.{HasColumn}
+use Rattle.version_lists.specs.Matrices.{IsBelow}
+use Rattle.version_lists.proofs.Indexing.{number_at_column}
 use Rattle.corner_table.specs.declared.table.Owner.{Owner}
 use Rattle.corner_table.specs.declared.table.Owner.TheVariants.{Level as LevelSlot, Attr as AttrSlot, Line as LineSlot}
 use Rattle.corner_table.specs.declared.table.Standing.{Standing}

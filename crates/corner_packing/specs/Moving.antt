@@ -3,7 +3,7 @@ use Rattle.std.specs.Prelude.{◌≡◌, ◌≢◌, ◌⊎◌, ℕ, ◌<◌, ◌
 use Rattle.row_core.specs.Rows.{Term}
 use Rattle.row_core.specs.Renames.{place_in}
 use Rattle.corner_table.specs.declared.table.TheConstants.{LEVELS, MOST_SLOTS}
-use Rattle.indexed_rows.specs.Indexes.{row_at}
+use Rattle.version_lists.specs.Indexes.{row_at}
 
 -- the slot has a place: 0 is that of the first level alone
 abbrev pub IsPlaced : List ℕ → ℕ → Type 0

@@ -1,7 +1,7 @@
 -- Slots that are packed: those of nothing are gone, and the others stand one behind another, in their order.
 use Rattle.std.specs.Prelude.{◌≡◌, ◌≢◌, ◌⊎◌, ℕ, ◌+◌, ◌<◌, ◌≤◌, cond, nat_lt, List, length, All}
 use Rattle.frac_core.specs.Fraction.{IsKept}
-use Rattle.number_slots.specs.Numbers.{AreRenumbered}
+use Rattle.version_lists.specs.Numbers.{AreRenumbered}
 use Rattle.row_core.specs.Rows.{IsKeptRow}
 use Rattle.row_core.specs.Renames.{place_in, renamed}
 use Rattle.corner_table.specs.declared.table.Owner.TheVariants.{Level as LevelSlot}

@@ -1,7 +1,7 @@
 // Slots, standings, rows and numbers at their places.
 ghost use Rattle.std.specs.Prelude.{◌≡◌, ◌<◌, ◌≤◌, ℕ, [], true, false, length, OnOk, slice_index_or};
 ghost use Rattle.row_core.specs.Renames.{place_in, renamed};
-ghost use Rattle.indexed_rows.specs.Indexes.{row_at};
+ghost use Rattle.version_lists.specs.Indexes.{row_at};
 ghost use Rattle.corner_table.specs.declared.table.TheConstants.{MOST_SLOTS};
 ghost use Rattle.corner_table.specs.Histories.{AreAlike, HasSameHistory, lists_before};
 ghost use Rattle.corner_table.specs.Kept.{IsKept};
@@ -14,10 +14,9 @@ ghost use Rattle.corner_packing.specs.Moving.{AreRisingPlaces, IsPlaced};
 use crate::places::Places;
 use corner_table::{LEVELS, OWN_RANK, Slot, Standing, Table};
 use frac_core::OutOfMemory;
-use indexed_rows::IndexedRows;
 use row_core::{Entry, IntRow};
 use std::alloc::Global;
-use version_list::VersionList;
+use version_lists::{IndexedRows, VersionList};
 
 // The place of a slot, 0 past the last one.
 fn place_at(places: &Places, w: usize) -> u32

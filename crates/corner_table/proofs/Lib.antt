@@ -1,3 +1,4 @@
 pub mod Corners
 pub mod Readings
 pub mod Basics
+pub mod Seen

@@ -2,7 +2,7 @@
 use Rattle.std.specs.Prelude.{◌≡◌, ◌≢◌, ℕ, zero, suc, ◌+◌, cond, nat_eq, List, [], ◌∷◌, ◌++◌, length}
 use Rattle.std.specs.Prelude.{◌≤◌, pos, negsuc, None}
 use Rattle.frac_core.specs.Fraction.{Fraction}
-use Rattle.number_slots.specs.Numbers.{IsNumbered}
+use Rattle.version_lists.specs.Numbers.{IsNumbered}
 use Rattle.row_core.specs.Rows.{IsKeptRow, Term, coefficient}
 use Rattle.problem_core.specs.Layout.{Row, rank_level}
 use Rattle.problem_core.specs.Window.{zero_fraction}

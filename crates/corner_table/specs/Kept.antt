@@ -35,6 +35,11 @@ use Rattle.corner_table.specs.Tables.{row_at, slot_at, standing_at, stay_rank}
 abbrev pub IsSlot : Lists → ℕ → Type 0
 IsSlot t w = (LEVELS ≤ w) × (w < length t.slots)
 
+-- an outside line's slot
+abbrev pub IsOutsideSlot : Lists → ℕ → Type 0
+IsOutsideSlot t c = IsSlot t c × ((standing_at t c).side ≡ None)
+    × ((name : RowName) × ((slot_at t c).owner ≡ LineSlot name))
+
 -- the slot whose row is the cost of the line's level: that of the level, of a stay its own
 abbrev pub home_of : Lists → Line → RowName → ℕ
 home_of t l (Held id) = l.level

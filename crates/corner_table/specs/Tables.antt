@@ -5,7 +5,7 @@ use Rattle.std.specs.Prelude.{slice_index_or}
 use Rattle.std.specs.declared.option.Option.{Option}
 use Rattle.std.specs.Prelude.{Some, None}
 use Rattle.row_core.specs.Rows.{Term, coefficient}
-use Rattle.indexed_rows.specs.Lists.{HasColumn}
+use Rattle.version_lists.specs.Lists.{HasColumn}
 use Rattle.problem_core.specs.Layout.{Row, Problem, lines, rank_level}
 use Rattle.problem_core.specs.Window.{zero_fraction}
 use Rattle.problem_core.specs.Corners.{marks_of}

@@ -42,8 +42,8 @@ pub use marking::{list_row, marks_with, path_stop};
 pub use moved::moved_attrs;
 pub use slots::{
     attr_slot, cost_share, costs, is_level, is_stay, level_of, level_slot, line_slot, name_at,
-    other, own_of, own_of_level, priority_at, priority_level, share, side_at, side_in, sign,
-    slot_at, unit_of, value_at, what_at, what_slot,
+    other, own_of, own_of_level, priority_at, priority_level, row_place, share, side_at, side_in,
+    sign, slot_at, unit_of, value_at, what_at, what_slot,
 };
 pub use sums::{product, sum};
 pub use table::{

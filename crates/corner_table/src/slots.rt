@@ -1,7 +1,8 @@
 // The slots of lines, attributes and levels.
 ghost use Rattle.std.specs.Prelude.{◌≡◌, ◌<◌, ◌≤◌, ◌-◌, ◌*◌, ◌↔◌};
-ghost use Rattle.std.specs.Prelude.{ℕ, pos, cond, length, true, Some};
+ghost use Rattle.std.specs.Prelude.{ℕ, pos, cond, length, true, Any, Some, slice_index_or};
 ghost use Rattle.frac_core.specs.Fraction.{IsFitting};
+ghost use Rattle.problem_core.specs.Layout as layout;
 ghost use Rattle.problem_core.specs.Layout.{HasStay};
 ghost use Rattle.problem_core.specs.declared.limits.TheConstants.{REQUIRED};
 ghost use Rattle.problem_core.specs.declared.parts.RowName as row_type;
@@ -14,7 +15,7 @@ ghost use Rattle.corner_table.specs.declared.table.TheConstants.{LEVELS};
 ghost use Rattle.corner_table.specs.Tables as tables;
 ghost use Rattle.corner_table.specs.Tables.{IsSign, entry, lists_of, problem_of};
 ghost use Rattle.corner_table.specs.Invariants as invariants;
-ghost use Rattle.corner_table.specs.Kept.{AreSlots, HasCost, IsHeld, IsStayOwner, level_own};
+ghost use Rattle.corner_table.specs.Kept.{AreSlots, HasCost, IsHeld, IsKept, IsStayOwner, level_own};
 ghost use Rattle.corner_table.specs.Views.{IsLevelOf, IsNamed};
 ghost use Rattle.corner_table.specs.Reads.LevelNumbers.{IsCounted, count_of, share_of, side_share, unit_at};
 ghost use Rattle.corner_laws.specs.Runs.{other_side};
@@ -47,6 +48,16 @@ pub fn line_slot(table: &Table, row: RowName) -> u32
         RowName::Held(id) => table.row_slots.slot(id),
         RowName::Stay(attr) => attr_slot(table, attr) + 1,
     }
+}
+
+/// The place of a row among the rows.
+pub fn row_place(table: &Table, id: u32) -> usize
+    requires kept { IsKept (lists_of table.now) }
+    requires held { Any (λ r. r.id ≡ id) table.now.rows.items }
+    ensures within { result < length table.now.rows.items }
+    ensures is { (r : layout.Row) → (slice_index_or table.now.rows.items result r).id ≡ id }
+{
+    table.rows.as_slice().partition_point(|row| row.id() < id)
 }
 
 /// The slot of an attribute, of a mark's line, or of a level's cost.

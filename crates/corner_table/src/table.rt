@@ -1,8 +1,8 @@
 // The lists that a corner is kept in.
 ghost use Rattle.std.specs.Prelude.{◌≡◌, ◌<◌, ◌≤◌, ◌-◌, ◌+◌, ◌^◌, [], ◌∷◌, List, false, length, take};
 ghost use Rattle.std.specs.Prelude.{IfOk, IsTrue, OnOk};
-ghost use Rattle.indexed_rows.specs.Matrices.{IsBelow};
-ghost use Rattle.version_list.specs.declared.TheConstants.{VERSION_LIMIT};
+ghost use Rattle.version_lists.specs.Matrices.{IsBelow};
+ghost use Rattle.version_lists.specs.declared.versions.TheConstants.{VERSION_LIMIT};
 ghost use Rattle.corner_table.specs.Tables.{Lists, lists_of};
 ghost use Rattle.corner_table.specs.Histories.{AreAlike, HasSameHistory, lists_before};
 ghost use Rattle.problem_core.specs.declared.limits.TheConstants.{ROW_LIMIT};
@@ -10,12 +10,10 @@ ghost use Rattle.corner_table.specs.Kept.{HasSlotsLeft, IsKept};
 ghost use Rattle.corner_table.specs.Joining.{HasNoPast, with_level, with_slot};
 
 use frac_core::{Frac, OutOfMemory};
-use indexed_rows::IndexedRows;
-use number_slots::NumberSlots;
 use problem_core::{FIRST_STAY_LEVEL, ROW_LIMIT, Rel, Row, RowName, Side, Stay};
 use row_core::IntRow;
 use std::alloc::Global;
-use version_list::VersionList;
+use version_lists::{IndexedRows, NumberSlots, VersionList};
 
 /// The first slots are those of the priority levels, by number; those from here on are in the order in
 /// which they came.

@@ -1,3 +1,2 @@
--- Owners of slots, sides, numbers and lists.
-pub mod OwnerFacts
+-- Sides, numbers and lists.
 pub mod SmallFacts

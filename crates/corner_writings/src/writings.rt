@@ -2,8 +2,8 @@
 ghost use Rattle.std.specs.Prelude.{◌≡◌, ◌↔◌, ◌*ℤ◌, ◌+◌, ◌^◌, ◌<◌, ◌≤◌, ℕ, List, neg_ℤ, length};
 ghost use Rattle.std.specs.Prelude.{slice_get};
 ghost use Rattle.row_core.specs.Rows.{IsRising};
-ghost use Rattle.indexed_rows.specs.Lists.{HasColumn};
-ghost use Rattle.indexed_rows.specs.Matrices.{IsBelow};
+ghost use Rattle.version_lists.specs.Lists.{HasColumn};
+ghost use Rattle.version_lists.specs.Matrices.{IsBelow};
 ghost use Rattle.std.specs.Prelude.{slice_index_or, true, All, AllPairs, Some};
 ghost use Rattle.corner_table.specs.declared.table.TheConstants.{LEVELS};
 ghost use Rattle.problem_core.specs.declared.stops.What as what_type;

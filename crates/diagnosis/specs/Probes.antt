@@ -11,7 +11,7 @@ use Rattle.problem_core.specs.Gaps.{value_of}
 use Rattle.cert_core.specs.Stops.{IsStopOf}
 use Rattle.cert_core.specs.declared.stops.RunStop.{RunStop}
 use Rattle.cert_core.specs.declared.stops.RunStop.TheVariants as run
-use Rattle.version_list.specs.declared.TheConstants.{VERSION_LIMIT}
+use Rattle.version_lists.specs.declared.versions.TheConstants.{VERSION_LIMIT}
 use Rattle.corner.specs.Changes.{FromAdded}
 use Rattle.layout_solver.specs.Layouts.{Layout, with_added}
 pub use Rattle.layout_solver.specs.Keeping.{NoConflict}

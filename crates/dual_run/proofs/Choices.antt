@@ -15,7 +15,7 @@ use Rattle.corner_laws.specs.Runs.{IsDualSwap, Writes, Writing, other_mark, othe
 use Rattle.corner_laws.proofs.MarkWritings.Directions.{each-of, ray_number}
 use Rattle.corner_laws.proofs.MarkWritings.LowestForms.{column_has_writing}
 use Rattle.corner_laws.proofs.RunSteps.DualRuns.{other_mark_grows, up-some}
-use Rattle.corner.specs.Views.{CornerView, IsKeptCorner, IsScaleOf, MovesWith}
+use Rattle.corner_ends.specs.Views.{CornerView, IsKeptCorner, IsScaleOf, MovesWith}
 use Rattle.corner_writings.specs.Entries.{AreBothOutside, AreEntries, HasEntry}
 use Rattle.corner_ends.proofs.Fronts.{reduced_at_all}
 use Rattle.corner_ends.proofs.ReadNumbers.{scale_is}

@@ -17,7 +17,7 @@ use Rattle.problem_core.proofs.RowNames.{stay-same}
 use Rattle.frac_core.proofs.Orders.{three as order}
 use Rattle.corner_laws.proofs.RunSteps.ColumnSigns.{negative_by_reduced, pick}
 use Rattle.corner_writings.specs.declared.levels.Front.{Front}
-use Rattle.corner.specs.Views.{HasNoFront, IsFrontOf, IsKeptCorner, IsMarkOf, IsStronger}
+use Rattle.corner_ends.specs.Views.{HasNoFront, IsFrontOf, IsKeptCorner, IsMarkOf, IsStronger}
 use Rattle.corner_ends.specs.Columns.{Reduced}
 use Rattle.corner_ends.proofs.Fronts.{front_below, level_named, reduced_there, some_line}
 use Rattle.corner_ends.proofs.Signs.{not_both_signs}

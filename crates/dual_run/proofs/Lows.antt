@@ -21,7 +21,7 @@ use Rattle.corner_laws.proofs.RunSteps.DualRuns.{other_mark_grows}
 use Rattle.corner_laws.proofs.MarkWritings.LowestForms.{column_has_writing, marks_are_fixed}
 use Rattle.corner_laws.proofs.WrittenValues.{contains_each}
 use Rattle.corner_laws.proofs.ZeroColumns.{not-in}
-use Rattle.corner.specs.Views.{HasValueAt, IsKeptCorner, IsMarkOf, IsNamed}
+use Rattle.corner_ends.specs.Views.{HasValueAt, IsKeptCorner, IsMarkOf, IsNamed}
 use Rattle.corner_ends.proofs.Marks.{in_mark}
 use Rattle.dual_run.specs.Leaving.{AreLowLines, HasNoLow, IsLow, MayLeave}
 use Rattle.corner_writings.proofs.Readings.LowLines.{up_or_low}

@@ -27,7 +27,7 @@ use Rattle.corner_laws.proofs.Swaps.DualChoice.{unused-IsLevelSum}
 use Rattle.corner_laws.proofs.LevelCosts.Equal.{numbers_are_equal}
 use Rattle.corner_laws.proofs.MarkWritings.LowestForms.{column_has_writing}
 use Rattle.corner_lines.proofs.Lines.LineWritings.{all-small}
-use Rattle.corner.specs.Views.{CornerView, IsKeptCorner, IsMarkOf, IsNamed, IsOutside, IsReducedAt, MovesWith}
+use Rattle.corner_ends.specs.Views.{CornerView, IsKeptCorner, IsMarkOf, IsNamed, IsOutside, IsReducedAt, MovesWith}
 use Rattle.corner_writings.specs.Entries.{AreBothOutside, AreEntries, HasEntry}
 use Rattle.corner_writings.specs.Growing.{AreGrowersDear, GrowsWith}
 use Rattle.corner_ends.specs.Columns.{Reduced}

@@ -6,7 +6,7 @@ use Rattle.problem_core.specs.declared.parts.Side.{Side}
 use Rattle.problem_core.specs.Layout.{Problem}
 use Rattle.problem_core.specs.Corners.{HasNegativeValue, IsIn, place}
 use Rattle.problem_core.specs.Changes.Paths.{IsEndOf}
-use Rattle.corner.specs.Views.{IsNamed}
+use Rattle.corner_ends.specs.Views.{IsNamed}
 use Rattle.corner_ends.specs.Trails.{Trail}
 use Rattle.corner_writings.specs.Lows.{ListsLow}
 

@@ -6,7 +6,7 @@ ghost use Rattle.problem_core.specs.Corners.{IsIn, NoNegativeColumn};
 ghost use Rattle.problem_core.specs.declared.parts.Side.TheVariants.{Under as UnderOf, Over as OverOf};
 ghost use Rattle.problem_core.specs.declared.stops.What.TheVariants.{Mark as MarkOf};
 ghost use Rattle.corner_laws.specs.Runs.{IsDualSwap, other_mark};
-ghost use Rattle.corner.specs.Views.{IsMarkOf, IsOutside, MovesWith};
+ghost use Rattle.corner_ends.specs.Views.{IsMarkOf, IsOutside, MovesWith};
 ghost use Rattle.corner_writings.specs.Entries.{AreBothOutside};
 ghost use Rattle.dual_run.specs.Entering.{AreDear, HasNoGrower, IsBeforeEntries, IsBeforeLine, IsChoice};
 ghost use Rattle.dual_run.specs.Entering.{IsDear, IsFound, IsFree, IsNoGreater, IsNumberOf, NeverGrows};
@@ -14,9 +14,8 @@ ghost use Rattle.dual_run.specs.Leaving.{MayLeave};
 
 use crate::leaving::other;
 use crate::ratios::{Choice, Found, is_before};
-use corner::Corner;
-use corner_ends::{coefficient_of, is_above, required_level};
-use frac_core::OutOfMemory;
+use corner_ends::{Corner, coefficient_of, is_above, required_level};
+use frac_core::{OutOfMemory, opposite};
 use problem_core::{Mark, RowName, Side, What};
 
 // The other mark of the leaving one's line, which grows as much.
@@ -31,14 +30,6 @@ fn own_choice(c: &Corner, leave: Mark) -> Choice
         mark: other(leave),
         by: c.denominator(What::Mark(leave)),
     }
-}
-
-// The number with the other sign.
-fn opposite(by: i64) -> i64
-    requires { IsFitting by }
-    ensures { result ≡ neg_ℤ by }
-{
-    -by
 }
 
 // The number of an outside line's under mark. Its over mark has the opposite one.

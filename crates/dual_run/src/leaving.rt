@@ -2,10 +2,10 @@
 ghost use Rattle.std.specs.Prelude.{◌≡◌, IfSome, IfNone, OnOk};
 ghost use Rattle.problem_core.specs.Corners.{NoNegativeValue};
 ghost use Rattle.corner_laws.specs.Runs.{other_mark};
-ghost use Rattle.corner.specs.Views.{IsNamed};
+ghost use Rattle.corner_ends.specs.Views.{IsNamed};
 ghost use Rattle.dual_run.specs.Leaving.{AreLowLines, HasNoLow, IsLow, ListsSwapped};
 
-use corner::Corner;
+use corner_ends::Corner;
 use frac_core::OutOfMemory;
 use problem_core::{Mark, RowName, Side};
 

@@ -5,13 +5,12 @@ ghost use Rattle.std.specs.declared.cmp.Ordering.TheVariants.{Less as IsLess, Gr
 ghost use Rattle.problem_core.specs.Corners as corners;
 ghost use Rattle.problem_core.specs.Corners.{NoNegativeColumn};
 ghost use Rattle.problem_core.specs.Levels.{IsLevelAt};
-ghost use Rattle.corner.specs.Views.{IsFrontOf, IsInUse, IsMarkOf};
+ghost use Rattle.corner_ends.specs.Views.{IsFrontOf, IsInUse, IsMarkOf};
 ghost use Rattle.corner_ends.specs.Columns.{Reduced};
 ghost use Rattle.dual_run.specs.Entering.{AreLevels, HasFront, IsNoGreater, IsPositive};
 
-use corner::{Corner, Front};
-use corner_ends::product;
-use frac_core::OutOfMemory;
+use corner_ends::{Corner, Front};
+use frac_core::{OutOfMemory, product};
 use problem_core::{Level, Mark};
 use std::cmp::Ordering;
 

@@ -4,7 +4,7 @@ ghost use Rattle.std.specs.Prelude.{IfSome, IfNone};
 ghost use Rattle.problem_core.specs.Corners.{NoNegativeColumn, NoNegativeValue};
 ghost use Rattle.problem_core.specs.Levels.{CostsAbove};
 ghost use Rattle.cert_core.specs.Stops.{IsStopOf};
-ghost use Rattle.corner.specs.Changes.{scene_of};
+ghost use Rattle.corner_ends.specs.Changes.{scene_of};
 ghost use Rattle.corner_ends.specs.Runs.{FromHere, HasEnded, HasRunBetween};
 ghost use Rattle.corner_ends.specs.Shares.{IsConflictStop};
 ghost use Rattle.dual_run.specs.Leaving.{AreLowLines, MayLeave};
@@ -12,8 +12,7 @@ ghost use Rattle.dual_run.specs.Leaving.{AreLowLines, MayLeave};
 use crate::leaving::leaving;
 use crate::runs::exchange;
 use cert_core::RunStop;
-use corner::Corner;
-use corner_ends::{Trail, conflict_stop, is_costly};
+use corner_ends::{Corner, Trail, conflict_stop, is_costly};
 use problem_core::{Mark, RowName};
 use std::alloc::Global;
 

@@ -8,8 +8,7 @@ ghost use Rattle.dual_run.specs.Leaving.{AreLowLines, HasSwapped, MayLeave};
 use crate::entering::entering;
 use crate::leaving::list_swapped;
 use cert_core::{RunStop, Swap};
-use corner::Corner;
-use corner_ends::Trail;
+use corner_ends::{Corner, Trail};
 use frac_core::Stop;
 use problem_core::{Mark, RowName};
 

@@ -3,11 +3,11 @@ ghost use Rattle.std.specs.Prelude.{◌≡◌, ◌<◌, length, IfOk, IfErr, OnE
 ghost use Rattle.problem_core.specs.Kept.{IsWhole};
 ghost use Rattle.problem_core.specs.declared.parts.RowName.TheVariants.{Held};
 ghost use Rattle.corner_lines.specs.Shifts.{with_constant};
-ghost use Rattle.corner.specs.Changes.{IsRewound, IsUnfitStop};
-ghost use Rattle.corner.specs.Shifts.Shifting.{IsNear};
+ghost use Rattle.corner_ends.specs.Changes.{IsRewound, IsUnfitStop};
+ghost use Rattle.corner_ends.specs.Changes.{IsNear};
 ghost use Rattle.dual_run.specs.Leaving.{AreLowLines};
 
-use corner::Corner;
+use corner_ends::Corner;
 use frac_core::{Frac, OutOfMemory, Stop};
 use problem_core::{RowName, TableStop};
 

@@ -13,9 +13,10 @@
 //! What the type keeps (`IsKept`): the denominator is above 0, there is no common factor but 1, and both
 //! parts fit.
 //!
-//! To read: `divisor` (the greatest common divisor, exact quotients), `frac`, `order` (the order of quotients
-//! whose cross products may be too large for 128 bits), `wide` (fractions for printing, which need not fit),
-//! `text` (fractions as text), `memory` (want of memory as an error of its own, for all crates).
+//! To read: `divisor` (the greatest common divisor, exact quotients), `times` (products of two numbers), `frac`,
+//! `order` (the order of quotients whose cross products may be too large for 128 bits), `wide` (fractions for
+//! printing, which need not fit), `text` (fractions as text), `memory` (want of memory as an error of its own,
+//! for all crates).
 #![tactic(auto)]
 
 mod divisor;
@@ -23,6 +24,7 @@ mod frac;
 mod memory;
 mod order;
 mod text;
+mod times;
 mod wide;
 
 pub use divisor::{common_divisor, gcd, quotient};
@@ -30,4 +32,5 @@ pub use frac::{Frac, PART_BOUND, Unfit};
 pub use memory::{OutOfMemory, Stop};
 pub use order::cmp_wide;
 pub use text::{FRACTION_ROOM, write_frac};
+pub use times::{opposite, product};
 pub use wide::Wide;

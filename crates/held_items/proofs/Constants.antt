@@ -8,6 +8,5 @@ pub mod NearMoves
 pub mod Nears
 pub mod Renewed
 pub mod Resized
-pub mod RowPlaces
 pub mod SameRow
 pub mod ShiftedRows

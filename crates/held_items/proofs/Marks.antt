@@ -1,7 +1,7 @@
 -- What is held, with the versions before: after a mark, and once a mark is taken back.
 use Rattle.std.proofs.Common.{◌≡◌, ◌∙◌, ◌≤◌, List, [], ◌∷◌, take, length, sym, ap, arith}
-use Rattle.version_list.specs.Versions.{Versions}
-use Rattle.version_list.specs.declared.TheConstants.{VERSION_LIMIT}
+use Rattle.version_lists.specs.Versions.{Versions}
+use Rattle.version_lists.specs.declared.versions.TheConstants.{VERSION_LIMIT}
 use Rattle.held_items.specs.declared.item.Item as declared
 use Rattle.held_items.specs.declared.limits.TheConstants.{EARLIER}
 use Rattle.std.proofs.lemmas.List.{take_all}

@@ -1,9 +1,9 @@
 -- What an item of the code stands for, and what it keeps.
-use Rattle.std.specs.Prelude.{◌+◌, ◌<◌, List, [], ◌∷◌, map, Bool}
+use Rattle.std.specs.Prelude.{ℕ, ◌+◌, ◌<◌, List, [], ◌∷◌, map, All, Bool}
 use Rattle.view_tree.specs.Views.{LiveView}
 use Rattle.held_items.specs.declared.item.leaving.Leaver.{Leaver}
 use Rattle.held_items.specs.declared.item.leaving.Leaver.TheVariants as leaver
-use Rattle.held_items.specs.Leaving.{goes_with, is_in_group}
+use Rattle.held_items.specs.Leaving.{attributes_in, goes_with, is_in_group}
 use Rattle.held_items.specs.Items.{is_intrinsic, is_size, is_suggestion, replaced, sized, with_constant}
 use Rattle.held_items.specs.Items.{intrinsic_changes, with_size}
 use Rattle.held_items.specs.Moving.{size_changes}
@@ -68,10 +68,24 @@ IsNamed views (Intrinsic s) = Unit {0}
 
 -- the item is one of those that leave
 abbrev pub is_leaving : Leaver → Item → Bool
-is_leaving (leaver.Group name) = is_in_group name.now
-is_leaving (leaver.Views gone) = goes_with gone.now
+is_leaving (leaver.Group name) = is_in_group name
+is_leaving (leaver.Views gone) = goes_with gone.items
 is_leaving (leaver.Suggestion view word) = is_suggestion view word
 is_leaving (leaver.Intrinsic view) = is_intrinsic view
+
+-- the attributes that leave: those of views
+abbrev pub leaving_attributes : Leaver → List ℕ
+leaving_attributes (leaver.Group name) = []
+leaving_attributes (leaver.Views gone) = attributes_in gone.items
+leaving_attributes (leaver.Suggestion view word) = []
+leaving_attributes (leaver.Intrinsic view) = []
+
+-- the numbers of the views that leave are below their limit
+abbrev pub HasSmallViews : Leaver → Type 0
+HasSmallViews (leaver.Group name) = Unit {0}
+HasSmallViews (leaver.Views gone) = All (λ id. id < ID_LIMIT) gone.items
+HasSmallViews (leaver.Suggestion view word) = Unit {0}
+HasSmallViews (leaver.Intrinsic view) = Unit {0}
 
 -- the item is what is meant
 abbrev pub is_lone : Lone → Item → Bool
@@ -90,6 +104,12 @@ abbrev pub renewed : Renewal → Item → Item
 renewed (renewal.Size held) = sized held.size.width held.size.height
 renewed (renewal.Suggestion again) = with_constant again.constant
 renewed (renewal.Intrinsic again) = with_size again.width again.height
+
+-- its row numbers are below their limit
+abbrev pub HasRowNumbers : Renewal → Type 0
+HasRowNumbers (renewal.Size held) = held.first_row < NUMBER_LIMIT
+HasRowNumbers (renewal.Suggestion again) = Unit {0}
+HasRowNumbers (renewal.Intrinsic again) = IsIntrinsic again
 
 -- what is held, with these constants
 abbrev pub renewed_by : Renewal → List Item → List Item

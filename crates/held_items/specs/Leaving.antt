@@ -2,7 +2,6 @@
 use Rattle.std.specs.Prelude.{ℕ, ◌+◌, Bool, false, cond, not, List, [], ◌∷◌, ◌++◌, filter, map, nat_eq}
 use Rattle.std.specs.List.{list_any}
 use Rattle.std.specs.Str.{bytes_eq}
-use Rattle.problem_core.specs.declared.parts.Stay.{Stay}
 use Rattle.view_tree.specs.Drops.{is_among}
 use Rattle.held_items.specs.declared.row_numbers.TheConstants.{HEIGHT_ROW, LEFT_ROW, TOP_ROW, WIDTH_ROW}
 use Rattle.held_items.specs.Attributes.{view_attributes}
@@ -54,7 +53,3 @@ numbers_of goes (item ∷ more) = cond (goes item) (item_numbers item) [] ++ num
 abbrev pub attributes_in : List ℕ → List ℕ
 attributes_in [] = []
 attributes_in (id ∷ more) = view_attributes id ++ attributes_in more
-
--- the stays of other attributes
-abbrev pub other_stays : List ℕ → List Stay → List Stay
-other_stays attrs stays = filter (λ s. not (is_among attrs s.attr)) stays

@@ -4,6 +4,7 @@ pub(crate) mod finding;
 pub(crate) mod intrinsic;
 pub(crate) mod leaving;
 pub(crate) mod moving;
+pub(crate) mod new_item;
 pub(crate) mod placing;
 pub(crate) mod renewing;
 pub(crate) mod rows;

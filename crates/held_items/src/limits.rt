@@ -1,7 +1,7 @@
 // How many rows what is held may stand for, and how many versions of it are kept.
 ghost use Rattle.held_items.specs.Constants.{ConstantsAreAsSaid};
 
-use version_list::VERSION_LIMIT;
+use version_lists::VERSION_LIMIT;
 
 /// How many rows a session may hold.
 pub const MOST_ROWS: usize = 2_000;

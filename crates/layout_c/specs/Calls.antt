@@ -16,7 +16,7 @@ use Rattle.scenes.specs.Scene.{Scene}
 use Rattle.scenes.specs.Frames.{IsFrameOf}
 use Rattle.view_tree.specs.Views.{view_named, view_of}
 use Rattle.layout_solver.specs.Moves.{AreMovedSince}
-use Rattle.session_undo.specs.Machine.{MeaningStep}
+use Rattle.session_undo.specs.Machine.{ChangeStep}
 use Rattle.session_undo.specs.Replies.{Reply, is_accepted}
 use Rattle.session_undo.specs.State.{State, IsFirst}
 use Rattle.session_undo.specs.declared.reply.Reply.{Reply as Answer}
@@ -72,7 +72,7 @@ AreRatios frame fractions = ⊥
 abbrev pub Resizes : Talking → Talking → Ratio → Ratio → ℕ → Type 0
 Resizes old new width height answer =
     ((w h : Fraction) × IsGiven width w × IsGiven height h
-    × Steps (MeaningStep old.state (mean.Window w h)) old new answer)
+    × Steps (ChangeStep old.state (mean.Update (mean.Window w h))) old new answer)
     ⊎ ((IsNoFraction width.num width.den ⊎ IsNoFraction height.num height.den)
     × (answer ≡ NONE) × (new ≡ old))
 
@@ -99,7 +99,7 @@ IsNoText bytes = IsUtf8 bytes → ⊥
 abbrev pub Suggests : Talking → Talking → List ℕ → ℕ → Ratio → ℕ → Type 0
 Suggests old new name attr value answer =
     ((w : AttrWord) × (v : Fraction) × (attribute attr ≡ Some w) × IsGiven value v
-    × Steps (MeaningStep old.state (mean.Suggest name w v None)) old new answer)
+    × Steps (ChangeStep old.state (mean.Update (mean.Suggest name w v None))) old new answer)
     ⊎ ((IsNoText name ⊎ (attribute attr ≡ None) ⊎ IsNoFraction value.num value.den)
     × (answer ≡ NONE) × (new ≡ old))
 
@@ -107,7 +107,7 @@ Suggests old new name attr value answer =
 abbrev pub Releases : Talking → Talking → List ℕ → ℕ → ℕ → Type 0
 Releases old new name attr answer =
     ((w : AttrWord) × (attribute attr ≡ Some w)
-    × Steps (MeaningStep old.state (mean.Release name w)) old new answer)
+    × Steps (ChangeStep old.state (mean.Leave (mean.Release name w))) old new answer)
     ⊎ ((IsNoText name ⊎ (attribute attr ≡ None)) × (answer ≡ NONE) × (new ≡ old))
 
 -- the number of the view of a name

@@ -3,7 +3,7 @@ ghost use Rattle.std.specs.Prelude.{◌≡◌, ◌<◌, ◌≤◌, ◌⊎◌, Li
 ghost use Rattle.frac_core.specs.Fraction.{Fraction};
 ghost use Rattle.script_text.specs.Meaning as mean;
 ghost use Rattle.script_text.specs.View.{view};
-ghost use Rattle.session_undo.specs.Machine.{MeaningStep};
+ghost use Rattle.session_undo.specs.Machine.{CommandStep, PlainStep};
 ghost use Rattle.layout_c.specs.Calls.{AreListed, AreRatios, IsAnswered};
 ghost use Rattle.layout_c.specs.Calls.{IsNewSession, IsNoFraction, IsNoText};
 ghost use Rattle.layout_c.specs.Calls.{IsGiven, IsRatioOf, Releases, Resizes, Steps, Suggests, answer_of};
@@ -17,7 +17,7 @@ use crate::status::{DONE, NONE, OUT_OF_MEMORY, REFUSED, TOO_LONG, WRITE_FAULT};
 use edge_io::LINE_LIMIT;
 use frac_core::{Frac, OutOfMemory};
 use layout_cli::Responder;
-use script_text::{AttrWord, Command};
+use script_text::{AttrWord, Change, Command, Leaving, Plain, Updating};
 use session_undo::{Refusal, Reply, Session};
 use std::alloc::Global;
 use std::str;
@@ -53,8 +53,8 @@ fn told(reply: &Result<Reply, Refusal>) -> u8
 }
 
 /// Does what a command says.
-pub(crate) fn change(desk: &mut Responder, command: Command<'_>) -> u8
-    ensures { Steps (MeaningStep desk.old.state (view command.entry)) desk.old desk.new result }
+pub(crate) fn act(desk: &mut Responder, command: Command<'_>) -> u8
+    ensures { Steps (CommandStep desk.old.state (view command.entry)) desk.old desk.new result }
 {
     let reply = desk.apply(command);
     let end = told(&reply);
@@ -100,7 +100,8 @@ pub(crate) fn resize(desk: &mut Responder, width: Ratio, height: Ratio) -> u8
     let Some(height) = frac_of(height) else {
         return NONE;
     };
-    change(desk, Command::Window { width, height })
+    let size = Updating::Window { width, height };
+    act(desk, Command::Change(Change::Update(size)))
 }
 
 /// Wishes that an attribute has a value, as a line `suggest` without a priority does.
@@ -116,15 +117,13 @@ pub(crate) fn suggest(desk: &mut Responder, name: &[u8], attr: u8, value: Ratio)
     let Some(value) = frac_of(value) else {
         return NONE;
     };
-    change(
-        desk,
-        Command::Suggest {
-            view,
-            word,
-            value,
-            priority: None,
-        },
-    )
+    let wish = Updating::Suggest {
+        view,
+        word,
+        value,
+        priority: None,
+    };
+    act(desk, Command::Change(Change::Update(wish)))
 }
 
 /// Lets a wish go, as a line `release` does.
@@ -137,14 +136,15 @@ pub(crate) fn release(desk: &mut Responder, name: &[u8], attr: u8) -> u8
     let Some(word) = word_of(attr) else {
         return NONE;
     };
-    change(desk, Command::Release { view, word })
+    let wish = Leaving::Release { view, word };
+    act(desk, Command::Change(Change::Leave(wish)))
 }
 
 /// Takes the scene before the latest change back, as a line `undo` does.
 pub(crate) fn undo(desk: &mut Responder) -> u8
-    ensures { Steps (MeaningStep desk.old.state mean.Undo) desk.old desk.new result }
+    ensures { Steps (PlainStep desk.old.state mean.Undo) desk.old desk.new result }
 {
-    change(desk, Command::Undo)
+    act(desk, Command::Plain(Plain::Undo))
 }
 
 // The attribute of a number.

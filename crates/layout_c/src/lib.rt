@@ -32,7 +32,7 @@ ghost use Rattle.layout_c.specs.Calls.{AreListed, IsAnswered, IsFound, IsFramed,
 ghost use Rattle.layout_c.specs.Calls.{Releases, Resizes, Steps, Suggests};
 ghost use Rattle.layout_c.specs.Runs.{IsAnswerTo};
 ghost use Rattle.script_text.specs.Meaning as mean;
-ghost use Rattle.session_undo.specs.Machine.{MeaningStep};
+ghost use Rattle.session_undo.specs.Machine.{PlainStep};
 
 use crate::calls::{answer, frame_of, fresh, moved, release, resize, suggest, undo, view_of};
 pub use crate::calls::{Frame, Ratio};
@@ -170,7 +170,7 @@ pub extern "C" fn layout_release(alloc: Global, session: &mut Held, name: &[u8],
 #[unsafe(no_mangle)]
 pub extern "C" fn layout_undo(alloc: Global, session: &mut Held) -> u8
     ensures { OnHeld session.old.session session.new.session result (λ old new.
-        Steps (MeaningStep old.state mean.Undo) old new result) }
+        Steps (PlainStep old.state mean.Undo) old new result) }
 {
     match session.take(alloc) {
         Some(mut desk) => {

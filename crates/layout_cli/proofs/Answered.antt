@@ -5,8 +5,8 @@ use Rattle.std.specs.Prelude.{IfOk, IfErr, OnErr, OnOk, not}
 use Rattle.std.specs.declared.result.Result.{Result}
 use Rattle.std.specs.declared.result.Result.TheVariants.{Ok, Err}
 use Rattle.name_tables.specs.declared.stops.LimitWord.TheVariants as word
-use Rattle.script_text.specs.Grammar.{Line, says_nothing, words_of}
-use Rattle.script_text.specs.Meaning.{Meaning, Said}
+use Rattle.script_text.specs.Grammar.{Line, words_of}
+use Rattle.script_text.specs.Meaning.{Said}
 use Rattle.script_text.specs.Meaning as mean
 use Rattle.script_text.specs.declared.words.Version.TheVariants as version
 use Rattle.script_text.proofs.LineLemmas.{one_reading}
@@ -16,13 +16,12 @@ use Rattle.session_undo.specs.declared.reply.Reply as answer
 use Rattle.session_undo.specs.declared.reply.Reply.TheVariants as good
 use Rattle.session_undo.specs.State.{IsFirstWith, State}
 use Rattle.session_undo.specs.Explaining.{SaidStep}
-use Rattle.session_undo.specs.Machine.{MeaningStep}
 use Rattle.conflict_core.specs.declared.found.Found.TheVariants as found
 use Rattle.session_undo.specs.Replies.{Reply, MayRefuse, IsTold, Tells, accepted, is_accepted, Nothing, Done, Frames, Rows, Certificate, Core, Diagnosed, Solvable, Outside, Unknown, Taken, Limit, Kind, Conflict, NoEarlier, Overflow, Spent, NoTarget, place_of, Swept, SweepOverflow}
 use Rattle.diagnosis.specs.Diagnoses.{findings_of}
 use Rattle.reply_texts.specs.Replies.{text_of}
 use Rattle.layout_cli.specs.Machine.{Answers, Begins, GoesOn, IsSilent, LeadsTo, Step, Talking, Talks, TalksAfter}
-use Rattle.layout_cli.proofs.BestRuns.{MaySay, blank_or, is_nothing, meaning-says, why-says}
+use Rattle.layout_cli.proofs.BestRuns.{MaySay, command-says, is_nothing, why-says}
 use Rattle.layout_cli.proofs.Versions.{blank_before, line_later}
 
 -- ---- lines to which nothing is said
@@ -31,16 +30,11 @@ says-something : (old : State) (reply : Reply) (new : State) → MaySay old repl
 says-something old reply new (inl (some, same)) none = true≢false (sym (ap is_nothing none) ∙ some)
 says-something old reply new (inr (done, to)) none = true≢false (sym (ap is_nothing none) ∙ ap is_nothing done)
 
--- a command that gets no reply is none, and nothing changes; a question gets one
+-- what gets no reply is no command and no question, and nothing changes
 silent_saying : (old : State) (line : List ℕ) (reply : Reply) (new : State) → (4096 < length line → ⊥) → (said : Said) → Line (words_of old.version) line said → SaidStep old said reply new → reply ≡ Nothing → IsSilent line × (new ≡ old)
-silent_saying old line reply new short (mean.Does m) reads step none = elim (blank_or m) [
-  | inl blank ↦ (
-    (omega (arith, short), blank_before old.version line (subst (λ (n : Meaning). Line (words_of old.version) line (mean.Does n)) blank reads)),
-    (subst (λ (n : Meaning). MeaningStep old n reply new) blank step).1,
-  )
-  | inr some ↦ absurd (says-something old reply new (meaning-says old reply new m some step) none)
-]
-silent_saying old line reply new short (mean.Why m) reads step none = absurd (says-something old reply new (why-says old reply new m step) none)
+silent_saying old line reply new short mean.Nothing reads step none = ((omega (arith, short), blank_before old.version line reads), step.1)
+silent_saying old line reply new short (mean.Does c) reads step none = absurd (says-something old reply new (command-says old reply new c step) none)
+silent_saying old line reply new short (mean.Why c) reads step none = absurd (says-something old reply new (why-says old reply new c step) none)
 
 -- where a line gets no reply it is blank or a comment, and nothing changes
 silent_line : (old : State) (line : List ℕ) (reply : Reply) (new : State) → Step old line reply new → reply ≡ Nothing → IsSilent line × (new ≡ old)
@@ -51,9 +45,9 @@ silent_line old line reply new (inr (short, inr (said, reads, step))) none = sil
 -- where it gets one it isn't
 spoken_line : (old : State) (line : List ℕ) (reply : Reply) (new : State) → Step old line reply new → (reply ≡ Nothing → ⊥) → IsSilent line → ⊥
 spoken_line old line reply new (inl (long, is, same)) some silent = omega (arith, long, silent.0)
-spoken_line old line reply new (inr (short, inl (at, leaves, keeps))) some silent = leaves.outside says_nothing (line_later old.version line says_nothing silent.1)
+spoken_line old line reply new (inr (short, inl (at, leaves, keeps))) some silent = leaves.outside mean.Nothing (line_later old.version line mean.Nothing silent.1)
 spoken_line old line reply new (inr (short, inr (said, reads, step))) some silent =
-    let blank : said ≡ says_nothing = one_reading old.version line said says_nothing reads (line_later old.version line says_nothing silent.1) in
+    let blank : said ≡ mean.Nothing = one_reading old.version line said mean.Nothing reads (line_later old.version line mean.Nothing silent.1) in
     some (subst (λ (s : Said). SaidStep old s reply new) blank step).0
 
 -- ---- what is kept in mind

@@ -2,33 +2,23 @@
 use Rattle.std.proofs.Common.{◌≡◌, ◌∙◌, ℕ, Bool, true, false, List, [], ◌∷◌, Option, Some, None, refl, sym, ap, subst, inl, inr, ◌⊎◌, true≢false}
 use Rattle.std.specs.Prelude.{All}
 use Rattle.std.proofs.lemmas.List.Elements.{All-cons, All-head, All-tail, All-take}
-use Rattle.span_text.specs.Objects.{Meant}
 use Rattle.name_tables.specs.declared.stops.LimitWord.TheVariants as word
 use Rattle.compile_parts.specs.declared.stops.KindWord.TheVariants as kind
-use Rattle.script_text.specs.declared.words.AttrWord.{AttrWord}
-use Rattle.constraint_compile.specs.declared.suggestion.Suggestion.{Suggestion}
-use Rattle.held_items.specs.declared.item.intrinsic.IntrinsicSize.{IntrinsicSize}
-use Rattle.held_items.specs.Items.{intrinsic_name, intrinsic_of, suggestion_name, suggestion_of}
-use Rattle.frac_core.specs.Fraction.{Fraction}
-use Rattle.script_text.specs.Directions.{line_in}
-use Rattle.script_text.specs.Meaning.{Meaning, Said}
+use Rattle.script_text.specs.Meaning.{Change, Command, Plain, Said}
 use Rattle.script_text.specs.Meaning as mean
-use Rattle.constraint_compile.specs.Compiled.{CompiledLine}
-use Rattle.constraint_compile.specs.Stops.{IsCompiled, MayStop}
-use Rattle.format_compile.specs.FormatParts.{parts}
-use Rattle.format_compile.specs.FormatStops.{row_count}
-use Rattle.format_compile.specs.FormatRows.{IsCompiledFormat, MayStopFormat}
-use Rattle.compile_parts.specs.declared.stops.CompileStop.{CompileStop}
-use Rattle.scenes.specs.Scene.{Scene, IsBestScene, with_earlier, with_metric}
+use Rattle.frac_core.specs.Fraction.{Fraction}
+use Rattle.scenes.specs.Drafts.{Any, Free, Kind, Left, Turned}
+use Rattle.scenes.specs.Scene.{Scene, IsBestScene, with_earlier}
 use Rattle.session_undo.specs.State.{State, IsBestState}
-use Rattle.session_undo.specs.Replies.{Reply, Nothing, Done, Frames, Rows, Certificate, Diagnosed, Outside, Unknown, Taken, Limit, Kind, Conflict, NoEarlier, Overflow, Spent, NoTarget, Step as OfStep, Probe, Core, Held, Solvable, Place, Swept, SweepOverflow, Sweep}
+use Rattle.session_undo.specs.Replies.{Reply, Nothing, Done, Frames, Rows, Certificate, Diagnosed, Outside, Unknown, Taken, Limit, Conflict, NoEarlier, Overflow, Spent, NoTarget, Step as OfStep, Probe, Core, Held, Solvable, Place, Swept, SweepOverflow, Sweep}
 use Rattle.problem_core.specs.Layout.{Problem}
-use Rattle.session_undo.specs.Adding.{NoEnd, NoOther}
 use Rattle.session_undo.specs.Explaining.{Explains, SaidStep, WhyStep}
+use Rattle.session_undo.specs.Replies as answers
 use Rattle.session_undo.proofs.Commands.Carried.{caused}
-use Rattle.layout_solver.specs.declared.removing.RemoveStop.{RemoveStop}
-use Rattle.layout_solver.specs.declared.removing.RemoveStop.TheVariants as removal
-use Rattle.session_undo.specs.Machine.{Diagnoses, Accepts, LeavesFree, Sizes, Solves, SolvesFree, Stands, Suggests, TellsStill, TriedDrop, TriedKeep, TriedRelease, TriedRemove, TriedSize, TriedSuggest, TriedUnsize, MeaningStep, TriedView, TriedTree, TriedMetric, TriedWindow, TriedLine, TriedBudget, TriedUndo, UnlessFar, Ends, Keeps, Tried, parent_name, still_place, Sweeps, TriedSweep}
+use Rattle.session_undo.proofs.Commands.Resolved.{comes, is_cause}
+use Rattle.layout_solver.specs.declared.request.RequestStop.{RequestStop}
+use Rattle.layout_solver.specs.declared.request.RequestStop.TheVariants as request
+use Rattle.session_undo.specs.Machine.{Diagnoses, Accepts, ChangeStep, CommandStep, EndsAs, LeavesFree, PlainStep, PosesDraft, Solves, SolvesFree, Stands, Sweeps, TakesBack, TellsStill, kind_for, still_place}
 use Rattle.layout_cli.specs.Machine.{GrammarStep, Step, Run}
 
 kept : (old new : State) → IsBestState old → new ≡ old → IsBestState new
@@ -43,10 +33,28 @@ abbrev pub is_nothing : Reply → Bool
 is_nothing Nothing = true
 is_nothing _ = false
 
--- the line is blank or a comment
-abbrev pub is_blank : Meaning → Bool
-is_blank mean.Nothing = true
-is_blank _ = false
+-- a cause is told
+cause-some : (reply : Reply) → is_cause reply ≡ true → is_nothing reply ≡ false
+cause-some Nothing is = absurd (true≢false (sym is))
+cause-some Done is = refl
+cause-some Frames is = refl
+cause-some Rows is = refl
+cause-some (Certificate levels) is = refl
+cause-some (Diagnosed findings) is = refl
+cause-some Solvable is = refl
+cause-some (Core ids by values) is = refl
+cause-some (Swept stretches) is = refl
+cause-some (Outside at) is = refl
+cause-some (Unknown name) is = refl
+cause-some (Taken name) is = refl
+cause-some (Limit limit) is = refl
+cause-some (answers.Kind wrong) is = refl
+cause-some (Conflict by) is = refl
+cause-some NoEarlier is = refl
+cause-some (Overflow place path quantity) is = refl
+cause-some (Spent place path) is = refl
+cause-some (NoTarget attr up) is = refl
+cause-some (SweepOverflow width path what) is = refl
 
 -- what changes something is answered `Done`, and leads from best values to best values
 abbrev pub MayChange : State → Reply → State → Type 0
@@ -72,12 +80,6 @@ module _ (old : State) (reply : Reply) (new : State) where
   past refusal some go (inl (fact, is, same)) = told refusal some is same
   past refusal some go (inr (none, rest)) = go rest
 
-  -- past the causes of a kind
-  past_any : {B N A : Type 0} {IsCause : B → Type 0} (refusal : B → Reply) → ((b : B) → is_nothing (refusal b) ≡ false) → (A → MaySay old reply new)
-      → ((b : B) × IsCause b × (reply ≡ refusal b) × (new ≡ old)) ⊎ (N × A) → MaySay old reply new
-  past_any refusal some go (inl (b, cause, is, same)) = told (refusal b) (some b) is same
-  past_any refusal some go (inr (none, rest)) = go rest
-
   -- ---- how a draft ends
 
   accepts-change : (draft : Scene) → Accepts draft old reply new → MaySay old reply new
@@ -93,10 +95,11 @@ module _ (old : State) (reply : Reply) (new : State) where
   solves-change draft (inr free) = free-change draft free
 
   -- a removal that is told to have stopped changes nothing
-  still-change : (stop : RemoveStop) → TellsStill old stop reply new → MaySay old reply new
-  still-change (removal.Unfit still at) is = told (Overflow (still_place still.items) at.path at.quantity) refl is.0 is.1
-  still-change (removal.Spent path) is = absurd is
-  still-change removal.OutOfMemory is = absurd is
+  still-change : (stop : RequestStop) → TellsStill old stop reply new → MaySay old reply new
+  still-change (request.Unfit still at) is = told (Overflow (still_place still.items) at.path at.quantity) refl is.0 is.1
+  still-change (request.Conflict by) is = absurd is
+  still-change (request.Spent path) is = absurd is
+  still-change request.OutOfMemory is = absurd is
 
   leaves-change : (draft : Scene) → LeavesFree old draft reply new → MaySay old reply new
   leaves-change draft (inl leaves) = inr (leaves.done, λ best. subst IsBestState (sym leaves.kept) (leaves.left.becomes.best, best-kept old best))
@@ -108,70 +111,8 @@ module _ (old : State) (reply : Reply) (new : State) where
 
   -- ---- commands
 
-  drop-change : (name : List ℕ) → TriedDrop old name (LeavesFree old) reply new → MaySay old reply new
-  drop-change name = past (Unknown name) refl (past (Kind kind.Window) refl (λ (root, gone, found, are, leaves). leaves-change _ leaves))
-
-  remove-change : (group : List ℕ) → TriedRemove old group (LeavesFree old) reply new → MaySay old reply new
-  remove-change group = past (Unknown group) refl (leaves-change _)
-
-  suggests-change : (view : ℕ) (attr : AttrWord) (value : Fraction) (priority : Option Meant) (rank : ℕ) (held : Option Suggestion) → Suggests old view attr value priority rank held (Solves old) reply new → MaySay old reply new
-  suggests-change view attr value priority rank None = past (Limit word.Rows) refl (past (Limit word.Constant) refl (λ (c, is, solves). solves-change _ solves))
-  suggests-change view attr value priority rank (Some s) =
-      past (Kind kind.Suggested) refl (past (Limit word.Constant) refl (λ (c, is, rest). past (Limit word.Constant) refl (solves-change _) rest))
-
-  suggest-change : (name : List ℕ) (attr : AttrWord) (value : Fraction) (priority : Option Meant) → TriedSuggest old name attr value priority (Solves old) reply new → MaySay old reply new
-  suggest-change name attr value priority =
-      past (Unknown name) refl (past_any Unknown (λ object. refl) (past (Kind kind.Priority) refl
-      (λ (view, named, rank, is, rest). suggests-change view.id attr value priority rank (suggestion_of view.id attr old.scene.held) rest)))
-
-  release-change : (name : List ℕ) (attr : AttrWord) → TriedRelease old name attr (LeavesFree old) reply new → MaySay old reply new
-  release-change name attr = past (Unknown name) refl (λ (view, named, rest). past (Unknown (suggestion_name name attr)) refl (leaves-change _) rest)
-
-  sizes-change : (view : ℕ) (width height : Fraction) (hug resist : Option Meant) (hugs resists : ℕ) (held : Option IntrinsicSize) → Sizes old view width height hug resist hugs resists held (Solves old) reply new → MaySay old reply new
-  sizes-change view width height hug resist hugs resists None = past (Limit word.Rows) refl (solves-change _)
-  sizes-change view width height hug resist hugs resists (Some s) = past (Kind kind.Sized) refl (past (Limit word.Constant) refl (solves-change _))
-
-  size-change : (name : List ℕ) (width height : Fraction) (hug resist : Option Meant) → TriedSize old name width height hug resist (Solves old) reply new → MaySay old reply new
-  size-change name width height hug resist =
-      past (Unknown name) refl (past_any Unknown (λ object. refl) (past_any Unknown (λ object. refl) (past (Kind kind.Priority) refl
-      (λ (view, named, hugs, resists, hugging, resisting, rest). sizes-change view.id width height hug resist hugs resists (intrinsic_of view.id old.scene.held) rest))))
-
-  unsize-change : (name : List ℕ) → TriedUnsize old name (LeavesFree old) reply new → MaySay old reply new
-  unsize-change name = past (Unknown name) refl (λ (view, named, rest). past (Unknown (intrinsic_name name)) refl (leaves-change _) rest)
-
-  keep-change : (name : List ℕ) → TriedKeep old name (SolvesFree old) reply new → MaySay old reply new
-  keep-change name = past (Unknown name) refl (λ (view, named, end). free-change _ end)
-
-  view-change : (name parent : List ℕ) → TriedView old name parent (SolvesFree old) reply new → MaySay old reply new
-  view-change name parent =
-      past (Unknown parent) refl (past (Taken name) refl (past (Limit word.Name) refl (past (Limit word.Views) refl (past (Limit word.Depth) refl (past (Limit word.Rows) refl
-      (λ (above, named, solves). free-change _ solves))))))
-
-  tree-change : (text : List ℕ) (start : ℕ) → TriedTree old text start (SolvesFree old) reply new → MaySay old reply new
-  tree-change text start =
-      past (Outside start) refl (past (Kind kind.Tree) refl (λ (tree, read, named). past (Unknown tree.place) refl (past_any Taken (λ name. refl)
-      (λ (parent, goes, branch). past_any Limit (λ limit. refl) (past (Limit word.Rows) refl (free-change _)) branch)) named))
-
-  far-change : (draft d : Scene) → UnlessFar old draft (Solves old d) reply new → MaySay old reply new
-  far-change draft d = past (Limit word.Constant) refl (λ (rows, are, rest). past (Limit word.Constant) refl (solves-change d) rest)
-
-  metric-change : (name : List ℕ) (value : Fraction) → TriedMetric old name value (Solves old) reply new → MaySay old reply new
-  metric-change name value =
-      past (Taken name) refl (past (Limit word.Name) refl (past (Limit word.Metrics) refl (far-change (with_metric old.scene name value) (with_metric old.scene name value))))
-
-  window-change : (w h : Fraction) → TriedWindow old w h (Solves old) reply new → MaySay old reply new
-  window-change w h = past (Limit word.Rows) refl (past (Limit word.Constant) refl (solves-change _))
-
-  line-change : (group : List ℕ) (count : ℕ) (May : CompileStop → Type 0) (Is : CompiledLine → Type 0) → TriedLine old group count May Is (Solves old) reply new → MaySay old reply new
-  line-change group count May Is =
-      past_any Unknown (λ name. refl) (past (Limit word.Name) refl (past (Limit word.Lines) refl (past_any Kind (λ wrong. refl) (past (Limit word.Rows) refl (past_any Limit (λ limit. refl)
-      (λ (line, is, solves). solves-change _ solves))))))
-
-  budget-change : (n : ℕ) → TriedBudget old n Keeps reply new → MaySay old reply new
-  budget-change n = past (Limit word.Budget) refl (λ (done, is). inr (done, λ best. subst IsBestState (sym is) best))
-
-  undo-change : TriedUndo old Keeps reply new → MaySay old reply new
-  undo-change = past NoEarlier refl (λ (scene, earlier, is, (done, new_is)). inr (done, λ best. subst IsBestState (sym new_is) (best-back old scene earlier is best)))
+  undo-change : TakesBack old reply new → MaySay old reply new
+  undo-change back = inr (back.done, λ best. subst IsBestState (sym back.back) (best-back old back.scene back.earlier back.latest best))
 
   -- a diagnosis changes nothing
   diagnose-change : Diagnoses old reply new → MaySay old reply new
@@ -181,7 +122,7 @@ module _ (old : State) (reply : Reply) (new : State) where
   diagnose-change (inr (inr (inr stop))) = told (NoTarget stop.attr stop.up) refl stop.refused.0 stop.refused.1
 
   -- so does what explains a problem
-  pub explains-say : (p : Problem) → Explains old p reply new → MaySay old reply new
+  explains-say : (p : Problem) → Explains old p reply new → MaySay old reply new
   explains-say p (inl none) = told Solvable refl none.told.0 none.told.1
   explains-say p (inr (inl core)) = told (Core core.ids core.by core.values) refl core.told.0 core.told.1
   explains-say p (inr (inr (inl over))) = told (Overflow (Held over.held.items) over.at.path over.at.quantity) refl over.refused.0 over.refused.1
@@ -193,87 +134,49 @@ module _ (old : State) (reply : Reply) (new : State) where
   swept-change (inr (inl stop)) = told (SweepOverflow stop.width stop.path stop.what) refl stop.refused.0 stop.refused.1
   swept-change (inr (inr stop)) = told (Spent (Sweep stop.width) stop.path) refl stop.refused.0 stop.refused.1
 
-  sweep-change : (from to : Fraction) → TriedSweep old from to (Sweeps old from to) reply new → MaySay old reply new
-  sweep-change from to = past (Kind kind.Sweep) refl (past (Limit word.Constant) refl swept-change)
+  -- ---- what gets some reply
 
-  -- what isn't blank gets some reply
-  pub meaning-says : (m : Meaning) → is_blank m ≡ false → MeaningStep old m reply new → MaySay old reply new
-  meaning-says mean.Nothing some step = absurd (true≢false some)
-  meaning-says (mean.View name parent) some step = view-change name (parent_name parent) step
-  meaning-says (mean.Tree text start) some step = tree-change text start step
-  meaning-says (mean.Drop name) some step = drop-change name step
-  meaning-says (mean.Remove group) some step = remove-change group step
-  meaning-says (mean.Suggest name attr value priority) some step = suggest-change name attr value priority step
-  meaning-says (mean.Release name attr) some step = release-change name attr step
-  meaning-says (mean.Metric name value) some step = metric-change name value step
-  meaning-says (mean.Window w h) some step = window-change w h step
-  meaning-says (mean.Constrain group line) some step =
-      line-change group 1 (MayStop old.scene.tree.views old.scene.metrics (line_in old.scene.direction line) old.scene.next_row) (IsCompiled old.scene.tree.views old.scene.metrics (line_in old.scene.direction line) old.scene.next_row) step
-  meaning-says (mean.Vfl group align format) some step =
-      line-change group (row_count old.scene.tree.views (parts format align old.scene.direction)) (MayStopFormat old.scene.tree.views old.scene.metrics format align old.scene.direction old.scene.next_row)
-      (IsCompiledFormat old.scene.tree.views old.scene.metrics format align old.scene.direction old.scene.next_row) step
-  meaning-says mean.Undo some step = undo-change step
-  meaning-says (mean.Budget n) some step = budget-change n step
-  meaning-says mean.Frames some step = told Frames refl step.0 step.1
-  meaning-says mean.Rows some step = told Rows refl step.0 step.1
-  meaning-says mean.Certify some (levels, certified, step) = told (Certificate levels) refl step.0 step.1
-  meaning-says mean.Diagnose some step = diagnose-change step
-  meaning-says (mean.Turn to) some step = stands-change _ step
-  meaning-says (mean.Size name width height hug resist) some step = size-change name width height hug resist step
-  meaning-says (mean.Unsize name) some step = unsize-change name step
-  meaning-says (mean.Keep name) some step = keep-change name step
-  meaning-says (mean.Sweep from to) some step = sweep-change from to step
+  ends-say : (kind : Kind) (draft : Scene) → EndsAs old kind draft reply new → MaySay old reply new
+  ends-say Free draft end = free-change draft end
+  ends-say Any draft end = solves-change draft end
+  ends-say Left draft end = leaves-change draft end
+  ends-say Turned draft end = stands-change draft end
+
+  change-says : (c : Change) → ChangeStep old c reply new → MaySay old reply new
+  change-says c step = elim (comes old Problem (EndsAs old (kind_for c)) PosesDraft reply Done new old c step) [
+    | inl cause ↦ inl (cause-some reply cause.0, cause.1)
+    | inr draft ↦ ends-say (kind_for c) draft.0 draft.2
+  ]
+
+  plain-says : (c : Plain) → PlainStep old c reply new → MaySay old reply new
+  plain-says mean.Undo step = past NoEarlier refl undo-change step
+  plain-says (mean.Budget n) step = past (Limit word.Budget) refl (λ (done, is). inr (done, λ best. subst IsBestState (sym is) best)) step
+  plain-says mean.Frames step = told Frames refl step.0 step.1
+  plain-says mean.Rows step = told Rows refl step.0 step.1
+  plain-says mean.Certify (levels, certified, step) = told (Certificate levels) refl step.0 step.1
+  plain-says mean.Diagnose step = diagnose-change step
+  plain-says (mean.Sweep from to) step = past (answers.Kind kind.Sweep) refl (past (Limit word.Constant) refl swept-change) step
+
+  pub command-says : (c : Command) → CommandStep old c reply new → MaySay old reply new
+  command-says (mean.Changes c) step = change-says c step
+  command-says (mean.Other c) step = plain-says c step
+
+  -- the question why gets one
+  pub why-says : (c : Change) → WhyStep old c reply new → MaySay old reply new
+  why-says c (inl cause) = change-says c (caused old c (EndsAs old (kind_for c)) reply new cause)
+  why-says c (inr (p, poses, explains)) = explains-say p explains
 
 -- ---- lines
-
--- a line is blank or a comment, or isn't
-pub blank_or : (m : Meaning) → (m ≡ mean.Nothing) ⊎ (is_blank m ≡ false)
-blank_or mean.Nothing = inl refl
-blank_or (mean.View name parent) = inr refl
-blank_or (mean.Tree text start) = inr refl
-blank_or (mean.Drop name) = inr refl
-blank_or (mean.Remove group) = inr refl
-blank_or (mean.Suggest name attr value priority) = inr refl
-blank_or (mean.Release name attr) = inr refl
-blank_or (mean.Metric name value) = inr refl
-blank_or (mean.Window w h) = inr refl
-blank_or (mean.Constrain group line) = inr refl
-blank_or (mean.Vfl group align format) = inr refl
-blank_or mean.Undo = inr refl
-blank_or (mean.Budget n) = inr refl
-blank_or mean.Frames = inr refl
-blank_or mean.Rows = inr refl
-blank_or mean.Certify = inr refl
-blank_or mean.Diagnose = inr refl
-blank_or (mean.Turn to) = inr refl
-blank_or (mean.Size name width height hug resist) = inr refl
-blank_or (mean.Unsize name) = inr refl
-blank_or (mean.Keep name) = inr refl
-blank_or (mean.Sweep from to) = inr refl
-
--- what asks why gets some reply
-pub why-says : (old : State) (reply : Reply) (new : State) (m : Meaning) → WhyStep old m reply new → MaySay old reply new
-why-says old reply new m (inl cause) = elim (blank_or m) [
-  | inl blank ↦ absurd (subst (λ (n : Meaning). Tried old n NoEnd NoOther reply new) blank cause)
-  | inr some ↦ meaning-says old reply new m some (caused old m (Ends old m) Keeps reply new cause)
-]
-why-says old reply new m (inr (p, poses, explains)) = explains-say old reply new p explains
 
 -- what says something may change something
 said-change : (old : State) (reply : Reply) (new : State) → MaySay old reply new → MayChange old reply new
 said-change old reply new (inl (some, same)) = inl same
 said-change old reply new (inr done) = inr done
 
-meaning-change : (old : State) (m : Meaning) (reply : Reply) (new : State) → MeaningStep old m reply new → MayChange old reply new
-meaning-change old m reply new step = changed (blank_or m)
-  where
-    changed : (m ≡ mean.Nothing) ⊎ (is_blank m ≡ false) → MayChange old reply new
-    changed (inl blank) = inl (subst (λ (n : Meaning). MeaningStep old n reply new) blank step).1
-    changed (inr some) = said-change old reply new (meaning-says old reply new m some step)
-
 saying-change : (old : State) (said : Said) (reply : Reply) (new : State) → SaidStep old said reply new → MayChange old reply new
-saying-change old (mean.Does m) reply new step = meaning-change old m reply new step
-saying-change old (mean.Why m) reply new step = said-change old reply new (why-says old reply new m step)
+saying-change old mean.Nothing reply new step = inl step.1
+saying-change old (mean.Does c) reply new step = said-change old reply new (command-says old reply new c step)
+saying-change old (mean.Why c) reply new step = said-change old reply new (why-says old reply new c step)
 
 grammar-change : (old : State) (line : List ℕ) (reply : Reply) (new : State) → GrammarStep old line reply new → MayChange old reply new
 grammar-change old line reply new (inl (at, leaves, keeps)) = inl keeps.1

@@ -5,8 +5,9 @@ use Rattle.std.specs.Str.Lines.{lines}
 use Rattle.edge_io.specs.declared.feed.TheConstants.{LINE_LIMIT}
 use Rattle.span_text.specs.Language.{LeavesAt}
 use Rattle.name_tables.specs.declared.stops.LimitWord.TheVariants as word
-use Rattle.script_text.specs.Grammar.{Line, VersionLine, says_nothing, words_of}
+use Rattle.script_text.specs.Grammar.{Line, VersionLine, words_of}
 use Rattle.script_text.specs.Meaning.{Said}
+use Rattle.script_text.specs.Meaning as mean
 use Rattle.script_text.specs.declared.words.Version.{Version}
 use Rattle.script_text.specs.declared.words.Version.TheVariants as version
 use Rattle.session_undo.specs.State.{State, IsFirstOf, IsFirstWith}
@@ -46,7 +47,7 @@ NewRun v lines text good = (first last : State) × IsFirstOf v first × Run firs
 
 -- the line is short enough, and blank or a comment
 abbrev pub IsSilent : List ℕ → Type 0
-IsSilent line = (length line ≤ LINE_LIMIT) × Line (words_of version.One) line says_nothing
+IsSilent line = (length line ≤ LINE_LIMIT) × Line (words_of version.One) line mean.Nothing
 
 -- the line is short enough, and says that the script is of version 2
 abbrev pub IsOpening : List ℕ → Type 0

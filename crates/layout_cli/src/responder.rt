@@ -10,7 +10,7 @@ ghost use Rattle.reply_texts.specs.Replies.{text_of};
 ghost use Rattle.reply_texts.specs.declared.reply.TheConstants.{OK_LENGTH};
 ghost use Rattle.scene_host.specs.Marks.{marked};
 ghost use Rattle.script_text.specs.View.{view};
-ghost use Rattle.session_undo.specs.Machine.{MeaningStep};
+ghost use Rattle.session_undo.specs.Machine.{CommandStep};
 ghost use Rattle.session_undo.specs.Replies.{accepted, Accepting, IsChange, MayRefuse, Refusing, Tells};
 ghost use Rattle.session_undo.specs.Kept.{AreWithin, limits_of};
 ghost use Rattle.session_undo.specs.State.{IsFirst, IsFirstWith};
@@ -163,8 +163,8 @@ impl Responder {
     /// that has it, but that no reply is written. Where it is accepted, a line that says the version comes
     /// too late from then on; otherwise all is as before.
     pub fn apply(&mut self, command: Command<'_>) -> Result<Reply, Refusal>
-        ensures accepted { Accepting (MeaningStep self.old.state (view command.entry)) self.new.state result }
-        ensures refused { Refusing (MeaningStep self.old.state (view command.entry)) self.old.state result }
+        ensures accepted { Accepting (CommandStep self.old.state (view command.entry)) self.new.state result }
+        ensures refused { Refusing (CommandStep self.old.state (view command.entry)) self.old.state result }
         ensures begun { OnOk result (self.new.begun ≡ true) }
         ensures same { OnErr result (self.new ≡ self.old) }
     {

@@ -1,7 +1,7 @@
 -- An engine's corner from its mark to the change or back.
 use Rattle.std.proofs.Common.{◌≡◌, ◌∙◌, ℕ, ◌-◌, ◌<◌, ◌++◌, true, false, List, [], ◌∷◌, length, take, sym, ap, ap₂, subst, arith, append-nil, All}
 use Rattle.std.proofs.lemmas.List.{take_all}
-use Rattle.version_list.specs.declared.TheConstants.{VERSION_LIMIT}
+use Rattle.version_lists.specs.declared.versions.TheConstants.{VERSION_LIMIT}
 use Rattle.frac_core.specs.Fraction.{Fraction}
 use Rattle.problem_core.specs.declared.parts.Mark.{Mark}
 use Rattle.problem_core.specs.declared.parts.Stay.{Stay}
@@ -16,7 +16,7 @@ use Rattle.corner.specs.Changes.{FromAdded, scene_of}
 use Rattle.corner_ends.specs.Runs.{FromHere, IsBestEnd, IsRun}
 use Rattle.layout_solver.specs.declared.engine.Change.{Change}
 use Rattle.layout_solver.specs.Layouts.{AreValuesAt, IsKeptSolution, Layout, Solution, solution_of, stays_at, with_added, zeros}
-use Rattle.layout_solver.specs.Engines.{AreItsValues, HasValues, HaveValues, IsSolved, layout_of, solution_at, solutions_at}
+use Rattle.layout_solver.specs.Engines.{AreItsValues, HasValues, HaveValues, IsMarked, IsSolved, layout_of, solution_at, solutions_at}
 use Rattle.layout_solver.specs.Shifts.{CanShift, IsAtMark, shifted, with_shifts}
 use Rattle.layout_solver.specs.Starts.{CanTake, IsMoved, attrs_of}
 use Rattle.layout_solver.specs.Trials.{IsTrialStop}
@@ -66,14 +66,6 @@ module _ (c : CornerView) (v : List (ℕ × Fraction)) (past : HaveValues c.befo
   }
 
 -- ---- after the mark
-
--- a solved corner with its layout, and the same corner with itself as the latest of the earlier ones
-pub record IsMarked (c mid : CornerView) (v : List (ℕ × Fraction)) (past : HaveValues c.before) (l : Layout) : Type 0 where
-  pub solved : IsSolved c v past
-  pub view : layout_of c v past ≡ l
-  pub scene : scene_of mid ≡ scene_of c
-  pub before : mid.before ≡ take VERSION_LIMIT (scene_of c ∷ c.before)
-  pub room : length l.earlier < VERSION_LIMIT
 
 module _ (c mid : CornerView) (v : List (ℕ × Fraction)) (past : HaveValues c.before) (l : Layout) (m : IsMarked c mid v past l) where
   -- the latest is the corner of now

@@ -14,12 +14,12 @@ use Rattle.corner.specs.Views.{CornerView, IsKeptCorner, Scene}
 use Rattle.corner.specs.Changes.{FromAdded, scene_of}
 use Rattle.corner_ends.specs.Runs.{IsBestEnd}
 use Rattle.layout_solver.specs.Layouts.{Layout, stays_at}
-use Rattle.layout_solver.specs.Engines.{AreItsValues, HaveValues, IsSolved}
+use Rattle.layout_solver.specs.Engines.{AreItsValues, HaveValues, IsMarked, IsSolved}
 use Rattle.layout_solver.specs.Keeping.{with_kept}
 use Rattle.layout_solver.specs.Removals.{stood}
 use Rattle.layout_solver.specs.Starts.{HasAdded, IsMoved}
 use Rattle.layout_solver.proofs.AtTargets.{best_at_targets}
-use Rattle.layout_solver.proofs.Changes.{IsMarked, changed_kept, still_moved, there_marks}
+use Rattle.layout_solver.proofs.Changes.{changed_kept, still_moved, there_marks}
 use Rattle.layout_solver.proofs.Solved.{solved_end, these_values}
 use Rattle.layout_solver.proofs.Values.{best_there}
 

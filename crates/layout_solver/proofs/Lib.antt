@@ -17,3 +17,5 @@ pub mod Reordered
 pub mod KeptOrders
 pub mod MovedValues
 pub mod Trials
+pub mod Posed
+pub mod Ways

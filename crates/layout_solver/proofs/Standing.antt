@@ -17,12 +17,12 @@ use Rattle.corner.specs.Views.{CornerView, HasValueAt, IsKeptCorner, Scene}
 use Rattle.corner.specs.Changes.{HasStood, scene_of}
 use Rattle.corner_ends.specs.Runs.{IsBestEnd}
 use Rattle.layout_solver.specs.Layouts.{AreValuesAt, Layout, stays_at}
-use Rattle.layout_solver.specs.Engines.{AreItsValues, HaveValues, IsSolved}
+use Rattle.layout_solver.specs.Engines.{AreItsValues, HaveValues, IsMarked, IsSolved}
 use Rattle.layout_solver.specs.Removals.{stood}
 use Rattle.layout_solver.specs.Starts.{IsMoved}
 use Rattle.layout_solver.specs.ValuesUnique.{values_are_one}
 use Rattle.layout_solver.proofs.BestValues.{attrs-at}
-use Rattle.layout_solver.proofs.Changes.{IsMarked, changed_solved, marked_columns, marked_values, shifted_is, there_marks}
+use Rattle.layout_solver.proofs.Changes.{changed_solved, marked_columns, marked_values, shifted_is, there_marks}
 use Rattle.layout_solver.proofs.Removals.LeftChanges.{marked_satisfied, stood_satisfied, stood_stands, stood_up}
 use Rattle.layout_solver.proofs.Shifts.Alterations.{stood_problem}
 use Rattle.layout_solver.proofs.Shifts.ShiftedProblems.{columns_stood}
@@ -68,7 +68,7 @@ module _ (c mid : CornerView) (v : List (ℕ × Fraction)) (past : HaveValues c.
       (x.0, stood_satisfied mid end before-it.corner has kept.whole marks x.0 x.1)
 
   -- it is an end
-  stood-end : IsBestEnd end.problem end.marks
+  pub stood-end : IsBestEnd end.problem end.marks
   stood-end = record {
     values = stood_up mid end before-it.corner has kept.whole marks before-it (marked_values c mid v past l m);
     columns = columns;

@@ -1,8 +1,9 @@
 -- What an engine is made of.
-use Rattle.std.specs.Prelude.{◌≡◌, ℕ, List, [], ◌∷◌, map, All}
+use Rattle.std.specs.Prelude.{◌≡◌, ◌<◌, ℕ, List, [], ◌∷◌, length, map, take, All}
 use Rattle.frac_core.specs.Fraction.{Fraction, IsLowest}
 use Rattle.problem_core.specs.Corners.{IsCorner}
-use Rattle.corner.specs.Views.{CornerView, Scene}
+use Rattle.version_lists.specs.declared.versions.TheConstants.{VERSION_LIMIT}
+use Rattle.corner.specs.Views.{CornerView, IsKeptCorner, Scene}
 use Rattle.corner.specs.Changes.{scene_of}
 use Rattle.layout_solver.specs.Layouts.{AreValuesAt, IsKeptSolution, Layout, Solution}
 
@@ -46,3 +47,29 @@ pub record IsSolved (c : CornerView) (values : List (ℕ × Fraction)) (before :
   pub kept : IsKeptSolution (solution_at (scene_of c) values)
   pub earlier : All IsKeptSolution (solutions_at c.before before)
   pub listed : c.candidates ≡ []
+
+-- ---- on the way
+
+-- a solved corner with its layout, and the same corner with itself as the latest of the earlier ones
+pub record IsMarked (c mid : CornerView) (v : List (ℕ × Fraction)) (past : HaveValues c.before) (l : Layout)
+    : Type 0 where
+  pub solved : IsSolved c v past
+  pub view : layout_of c v past ≡ l
+  pub scene : scene_of mid ≡ scene_of c
+  pub before : mid.before ≡ take VERSION_LIMIT (scene_of c ∷ c.before)
+  pub room : length l.earlier < VERSION_LIMIT
+
+-- the corner has just been marked, where the layout was this one
+pub record IsMarkedAs (mid : CornerView) (l : Layout) : Type 0 where
+  pub from : CornerView
+  pub values : List (ℕ × Fraction)
+  pub past : HaveValues from.before
+  pub is : IsMarked from mid values past l
+  pub listed : mid.candidates ≡ []
+
+-- the layout has the corner's problem, values and marks
+pub record IsLayoutAt (c : CornerView) (l : Layout) : Type 0 where
+  pub kept : IsKeptCorner c.problem c.marks
+  pub problem : l.problem ≡ c.problem
+  pub values : ∥ AreItsValues (scene_of c) l.values ∥₁
+  pub corner : l.corner ≡ c.marks

@@ -11,7 +11,7 @@ use Rattle.cert_core.specs.Stops.{IsPlain}
 use Rattle.cert_core.specs.declared.stops.UnfitPath.{UnfitPath}
 use Rattle.corner_laws.specs.Examples.{over_row, over_second, over_stay, single, under_row}
 use Rattle.marker_remove.specs.Instances.{standing, x_over}
-use Rattle.layout_solver.specs.declared.removing.RemoveStop.TheVariants.{Unfit, Spent}
+use Rattle.layout_solver.specs.declared.request.RequestStop.TheVariants.{Unfit, Spent}
 use Rattle.layout_solver.specs.Removals.{CanLeave, IsHeldPath, IsRemoveStop, Leaving}
 
 -- `x >= 0`

@@ -6,6 +6,7 @@ pub mod Begins
 pub mod Shifts
 pub mod Removals
 pub mod Keeping
+pub mod Requests
 pub mod Instances
 pub mod Moves
 pub mod Trials

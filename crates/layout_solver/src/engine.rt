@@ -1,14 +1,13 @@
 // The engine: a problem with its best values and the corner where they stand, and earlier ones to go back to.
 mod moved;
 
-ghost use Rattle.std.specs.Prelude.{◌≡◌, ◌≢◌, ◌<◌, ◌-◌, ℕ, [], ◌∷◌, true, false, length, take};
-ghost use Rattle.std.specs.Prelude.{All, AllPairs, Any, IfOk, IfErr, IfSome, IfNone, OnErr};
+ghost use Rattle.std.specs.Prelude.{◌≡◌, ◌<◌, ◌-◌, ℕ, [], ◌∷◌, false, length, take};
+ghost use Rattle.std.specs.Prelude.{All, Any, IfOk, IfErr, IfSome, IfNone, OnErr};
 ghost use Rattle.frac_core.specs.Fraction.{IsKept, IsLowest};
 ghost use Rattle.problem_core.specs.Layout.{HasStay, line_of_row};
 ghost use Rattle.problem_core.specs.Levels.{IsLevelAt};
 ghost use Rattle.problem_core.specs.Window.{zero_fraction};
 ghost use Rattle.problem_core.specs.Kept.{IsWhole};
-ghost use Rattle.cert_core.specs.Paths as paths;
 ghost use Rattle.cert_core.specs.Stops.{IsStopOf};
 ghost use Rattle.cert_checker.specs.Certifying.{EachGiven};
 ghost use Rattle.certificates.specs.Accepted.{IsCertified};
@@ -17,30 +16,25 @@ ghost use Rattle.certificates.specs.OwnLevels.{IsOwnBest};
 ghost use Rattle.corner_lines.specs.Shifts.{with_constant};
 ghost use Rattle.corner.specs.Changes.{FromAdded, scene_of};
 ghost use Rattle.corner.specs.Shifts.Shifting.{IsNear};
-ghost use Rattle.corner_ends.specs.Runs.{FromHere, IsRun};
-ghost use Rattle.version_list.specs.declared.TheConstants.{VERSION_LIMIT};
+ghost use Rattle.version_lists.specs.declared.versions.TheConstants.{VERSION_LIMIT};
 ghost use Rattle.layout_solver.specs.Layouts.{AreApart, AreBest, IsBestValue, IsKeptLayout};
 ghost use Rattle.layout_solver.specs.Layouts.{IsKeptSolution};
 ghost use Rattle.layout_solver.specs.Layouts.{solution_of, with_added};
-ghost use Rattle.layout_solver.specs.Shifts.{AreKept, CanShift, with_shifts};
-ghost use Rattle.layout_solver.specs.Keeping.{AreAtStays, NoConflict, with_kept};
-ghost use Rattle.layout_solver.specs.Removals.{CanLeave, HasRemoved, IsRemoveStop, stood, with_removed};
+ghost use Rattle.layout_solver.specs.Requests.{CanSolve, IsRequestStop, IsSolvedBy, posed_by};
 ghost use Rattle.layout_solver.specs.Engines.{HasValues, HaveValues};
-ghost use Rattle.layout_solver.specs.Starts.{HasAdded};
 ghost use Rattle.layout_solver.specs.Trials.{IsTrialStop};
 ghost use Rattle.layout_solver.specs.ValuesUnique.{lists_are_one, one_list};
 
-use crate::changing::extend;
-use crate::keeping::reorder;
+use crate::posing::{as_held, posed};
 use crate::reading::{has_level, has_stay, row_of};
-use crate::removing::{RemoveStop, shrink};
-use crate::shifting::alter;
+use crate::request::{Request, RequestStop};
+use crate::solving::go;
 use crate::trying::{TrialStop, pushed, tried};
 use cert_core::{Best, RunStop};
 use certificates::{certificate, error};
 use corner::Corner;
 use frac_core::{Frac, OutOfMemory, Wide};
-use problem_core::{Level, Row, Stay};
+use problem_core::{Level, Problem, Row, Stay};
 use std::alloc::Global;
 use std::marker::Model;
 
@@ -98,26 +92,26 @@ impl Engine {
         let _ = &self.corner; // for the proof: what an engine keeps
     }
 
-    /// Adds attributes at 0 and rows, with the stays at the present values, and goes on to the best values.
-    /// The path begins at the corner that was kept, with the mark of each new row that is not negative.
+    /// Solves a request: moves the stays to the present values, changes what the request says, and goes on to
+    /// the best values. The path begins at the corner that was kept; for `Add` with the mark of each new row
+    /// that is not negative, for `Remove` after exchanges that bring a mark of each leaving row in, and
+    /// without these marks. `Keep` moves no value, and `Stand` needs no path.
     ///
-    /// `Conflict`: the required rows have no solution, as the multipliers show. `Unfit`: a quantity does not
-    /// fit at the last corner of the path. `Spent`: the path has as many exchanges as the budget. After each
-    /// stop the engine is as before.
-    pub fn add(&mut self, attrs: &[u32], rows: &[Row], budget: u64) -> Result<(), RunStop>
+    /// `Conflict` (of `Add` and `Shift` alone): the required rows have no solution, as the multipliers show.
+    /// `Unfit`: a quantity does not fit at the last corner of the path, or, of `Remove`, while the rows in
+    /// `still` are held. `Spent`: the path has as many exchanges as the budget. After each stop the engine is
+    /// as before.
+    pub fn solve(&mut self, request: &Request, budget: u64) -> Result<(), RequestStop>
         requires room { length self.old.earlier < VERSION_LIMIT }
-        requires whole { IsWhole (with_added self.old attrs.now rows.now) }
-        ensures done { IfOk result (λ _. self.new.problem ≡ with_added self.old attrs.now rows.now) }
-        ensures path { IfOk result (λ _. HasAdded (with_added self.old attrs.now rows.now) self.old.corner
-            rows.now budget self.new.corner) }
-        ensures stop { IfErr result (IsStopOf false (with_added self.old attrs.now rows.now)
-            self.old.problem.rows
-            (FromAdded (with_added self.old attrs.now rows.now) self.old.corner rows.now) budget) }
+        requires can { CanSolve self.old request.now }
+        ensures problem { IfOk result (λ _. self.new.problem ≡ posed_by self.old request.now) }
+        ensures solved { IfOk result (λ _. IsSolvedBy self.old request.now budget self.new) }
+        ensures stop { IfErr result (IsRequestStop self.old request.now budget) }
         ensures earlier { IfOk result (λ _. self.new.earlier ≡ solution_of self.old ∷ self.old.earlier) }
         ensures same { OnErr result (self.new ≡ self.old) }
     {
         self.corner.mark();
-        let result = extend(self.alloc, &mut self.corner, attrs, rows, budget);
+        let result = go(self.alloc, &mut self.corner, request, budget);
         self.corner.show_corner(); // for the proof: what a corner keeps
         match result {
             Ok(()) => Ok(()),
@@ -128,124 +122,24 @@ impl Engine {
         }
     }
 
-    /// Gives rows other constants, with the stays at the present values, and goes on to the best values. The
-    /// rows come by rising number, and what each constant is above the row's own fits. The path begins at the
-    /// corner that was kept.
-    ///
-    /// The stops are those of `add`.
-    pub fn shift(&mut self, to: &[Change], budget: u64) -> Result<(), RunStop>
-        requires room { length self.old.earlier < VERSION_LIMIT }
-        requires held { CanShift self.old.problem to.now }
-        requires rising { AllPairs (λ a b. a.row < b.row) to.now }
-        requires kept { AreKept to.now }
-        ensures done { IfOk result (λ _. self.new.problem ≡ with_shifts self.old to.now) }
-        ensures path { IfOk result (λ _. (path : paths.Path)
-            × IsRun true (with_shifts self.old to.now) (FromHere self.old.corner []) budget self.new.corner
-            path) }
-        ensures stop { IfErr result (IsStopOf true (with_shifts self.old to.now) self.old.problem.rows
-            (FromHere self.old.corner) budget) }
-        ensures earlier { IfOk result (λ _. self.new.earlier ≡ solution_of self.old ∷ self.old.earlier) }
-        ensures same { OnErr result (self.new ≡ self.old) }
+    /// The problem that `solve` would solve, in copies of the engine's rows.
+    pub fn posed(&self, request: Request) -> Result<Problem, OutOfMemory>
+        requires { CanSolve self.now request }
+        ensures { IfOk result (λ p. p ≡ posed_by self.now request) }
     {
-        self.corner.mark();
-        let result = alter(self.alloc, &mut self.corner, to, budget);
-        self.corner.show_corner(); // for the proof: what a corner keeps
-        match result {
-            Ok(()) => Ok(()),
-            Err(stop) => {
-                self.corner.back();
-                Err(stop)
-            }
-        }
+        posed(self.alloc, self, request)
     }
 
-    /// Takes rows and attributes out, with the stays at the present values, and goes on to the best values.
-    /// The rows leave in this order, and each that names a leaving attribute is one of them. The path begins
-    /// at the corner that was kept, where exchanges bring a mark of each leaving row in, and these marks are
-    /// taken out.
-    ///
-    /// There is no conflict. `Unfit`: a quantity does not fit, while the rows in `still` are held, or at the
-    /// last corner of the path. `Spent`: the path has as many exchanges as the budget. After each stop the
-    /// engine is as before.
-    pub fn remove(&mut self, rows: &[u32], attrs: &[u32], budget: u64) -> Result<(), RemoveStop>
-        requires room { length self.old.earlier < VERSION_LIMIT }
-        requires leave { CanLeave (record { rows = rows.now; attrs = attrs.now }) self.old.problem }
-        ensures done { IfOk result
-            (λ _. self.new.problem ≡ with_removed self.old (record { rows = rows.now; attrs = attrs.now })) }
-        ensures path { IfOk result (λ _. HasRemoved (stood self.old) self.old.corner
-            (record { rows = rows.now; attrs = attrs.now }) budget self.new.corner) }
-        ensures stop { IfErr result (IsRemoveStop (stood self.old) self.old.corner
-            (record { rows = rows.now; attrs = attrs.now }) budget) }
-        ensures earlier { IfOk result (λ _. self.new.earlier ≡ solution_of self.old ∷ self.old.earlier) }
-        ensures same { OnErr result (self.new ≡ self.old) }
+    /// The problem, in copies of its rows.
+    pub fn problem(&self) -> Result<Problem, OutOfMemory>
+        ensures { IfOk result (λ p. p ≡ self.now.problem) }
     {
-        self.corner.mark();
-        let result = shrink(self.alloc, &mut self.corner, rows, attrs, budget);
-        self.corner.show_corner(); // for the proof: what a corner keeps
-        match result {
-            Ok(()) => Ok(()),
-            Err(stop) => {
-                self.corner.back();
-                Err(stop)
-            }
-        }
-    }
-
-    /// Moves the stays to the present values. These and the corner are as before.
-    pub fn stand(&mut self) -> Result<(), OutOfMemory>
-        requires room { length self.old.earlier < VERSION_LIMIT }
-        ensures problem { IfOk result (λ _. self.new.problem ≡ stood self.old) }
-        ensures values { IfOk result (λ _. self.new.values ≡ self.old.values) }
-        ensures corner { IfOk result (λ _. self.new.corner ≡ self.old.corner) }
-        ensures earlier { IfOk result (λ _. self.new.earlier ≡ solution_of self.old ∷ self.old.earlier) }
-        ensures same { OnErr result (self.new ≡ self.old) }
-    {
-        self.corner.mark();
-        let result = self.corner.stand();
-        self.corner.show_corner(); // for the proof: what a corner keeps
-        match result {
-            Ok(()) => Ok(()),
-            Err(OutOfMemory) => {
-                self.corner.back();
-                Err(OutOfMemory)
-            }
-        }
-    }
-
-    /// Puts the stays of these attributes, which differ, before all others, with all stays at the present
-    /// values. These are the best ones still, and stay. The path begins at the corner that was kept.
-    ///
-    /// There is no conflict. `Unfit`: a quantity does not fit at the last corner of the path. `Spent`: the
-    /// path has as many exchanges as the budget. After each stop the engine is as before.
-    pub fn keep(&mut self, attrs: &[u32], budget: u64) -> Result<(), RunStop>
-        requires room { length self.old.earlier < VERSION_LIMIT }
-        requires held { All (HasStay self.old.problem.stays) attrs.now }
-        requires apart { AllPairs (λ a b. a ≢ b) attrs.now }
-        ensures done { IfOk result (λ _. self.new.problem ≡ with_kept self.old attrs.now) }
-        ensures values { IfOk result (λ _. AreAtStays self.new) }
-        ensures path { IfOk result (λ _. HasAdded (with_kept self.old attrs.now) self.old.corner [] budget
-            self.new.corner) }
-        ensures stop { IfErr result (IsStopOf false (with_kept self.old attrs.now) self.old.problem.rows
-            (FromAdded (with_kept self.old attrs.now) self.old.corner []) budget) }
-        ensures free { IfErr result NoConflict }
-        ensures earlier { IfOk result (λ _. self.new.earlier ≡ solution_of self.old ∷ self.old.earlier) }
-        ensures same { OnErr result (self.new ≡ self.old) }
-    {
-        self.corner.mark();
-        let result = reorder(self.alloc, &mut self.corner, attrs, budget);
-        self.corner.show_corner(); // for the proof: what a corner keeps
-        match result {
-            Ok(()) => Ok(()),
-            Err(stop) => {
-                self.corner.back();
-                Err(stop)
-            }
-        }
+        as_held(self.alloc, self)
     }
 
     /// The value that an attribute would have if rows joined. The engine is as before.
     ///
-    /// The stops are those of `add`.
+    /// The stops are those of `solve`, where the rows are added.
     pub fn value_with(&mut self, rows: &[Row], attr: u32, budget: u64) -> Result<Frac, RunStop>
         requires room { length self.old.earlier < VERSION_LIMIT }
         requires whole { IsWhole (with_added self.old [] rows.now) }

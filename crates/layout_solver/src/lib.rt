@@ -1,14 +1,15 @@
 //! The engine: a layout problem and its best values, changed step by step, and back.
 //!
 //! An [`Engine`] is a problem, its best values, and the corner at which these stand, with earlier ones.
-//! [`Engine::add`] takes more attributes and rows, [`Engine::remove`] takes some out, [`Engine::shift`] gives
-//! rows other constants, and [`Engine::keep`] puts some stays before all others: it moves no value, and in
-//! what follows the attributes of these stays are moved last. Each first moves the stays to the present
-//! values, so that the attributes stay where they are as far as the rows let them, and then exchanges marks
-//! until the values are best: after `shift` no column is negative on the way, else no value is. A change that
-//! is refused leaves the engine as it was.
+//! [`Engine::solve`] takes a [`Request`]: `Add` brings attributes and rows, `Remove` takes some out, `Shift`
+//! gives rows other constants, `Keep` puts some stays before all others (it moves no value, and from then on
+//! the attributes of these stays are moved last), and `Stand` changes nothing else. Each request first moves
+//! the stays to the present values, so that the attributes stay where they are as far as the rows let them.
+//! Then marks are exchanged until the values are best: after `Shift` no column is negative on the way, else
+//! no value is. A request that stops leaves the engine as it was. [`Engine::posed`] tells the problem that
+//! would be solved.
 //!
-//! A change that is made leaves the layout before it among the earlier ones, of which there may be 33.
+//! A request that is solved leaves the layout before it among the earlier ones, of which there may be 33.
 //! [`Engine::back`] goes back to the latest of these, with no memory and no way to fail, and
 //! [`Engine::forget`] drops the oldest.
 //!
@@ -23,54 +24,57 @@
 //! | Clause | Says |
 //! |---|---|
 //! | `show_layout`: `best` | the values are those of a best assignment; no other list is |
-//! | `done` | after `Ok`, the problem is the one that was asked for |
-//! | `path` | after `Ok`, a lawful path within the budget leads from the kept corner to the engine's corner |
-//! | `stop` | a conflict (none in `remove` and `keep`) has multipliers that show it, any other a path |
+//! | `problem` | after `Ok`, the problem is the one that was asked for |
+//! | `solved` | after `Ok`, a lawful path within the budget leads from the kept corner to the engine's |
+//! | `stop` | a conflict (none in `Remove` and `Keep`) has multipliers that show it, any other a path |
 //! | `earlier` | after `Ok`, the layout before is the latest of the earlier ones |
 //! | `same` | after a stop or want of memory, the engine is as before |
 //! | `some`, `none` | the value of an attribute with a stay, and of no other |
 //!
 //! ```
 //! let mut engine = Engine::new(alloc)?;
-//! engine.add(&[1], &rows, 1000)?;             // a row 7: attribute 1 is at least 20
-//! engine.value(1);                            // 20
-//! engine.value(2);                            // None
-//! let constant = Frac::of(30, 1)?;
-//! engine.shift(&[Change { row: 7, constant }], 1000)?; // row 7: attribute 1 is at least 30
-//! engine.value(1);                            // 30
-//! engine.add(&[], &more, 1000)                // a row 8: attribute 1 is at most 10, which is refused:
-//!                                             // the multipliers 1 and -1 of the rows 7 and 8 show it
-//! engine.value(1);                            // 30
-//! engine.remove(&[7], &[], 1000)?;            // attribute 1 is free, and stays where it is
-//! engine.value(1);                            // 30
-//! engine.back();                              // the row 7 is back, at 30
-//! engine.back();                              // at 20
-//! engine.value(1);                            // 20
+//! engine.solve(&Request::Add { attrs, rows }, 1000)?;  // a row 7: attribute 1 is at least 20
+//! engine.value(1);                                     // 20
+//! engine.value(2);                                     // None
+//! engine.solve(&Request::Shift(to), 1000)?;            // row 7: attribute 1 is at least 30
+//! engine.value(1);                                     // 30
+//! engine.solve(&more, 1000)                            // a row 8: attribute 1 is at most 10, which stops:
+//!                                                      // the multipliers 1 and -1 of the rows show it
+//! engine.value(1);                                     // 30
+//! engine.solve(&Request::Remove { rows, attrs }, 1000)?; // without row 7, attribute 1 stays where it is
+//! engine.value(1);                                     // 30
+//! engine.back();                                       // the row 7 is back, at 30
+//! engine.back();                                       // at 20
+//! engine.value(1);                                     // 20
 //! ```
 //!
 //! Linear programming's words: the values at a corner are a basic solution, the marks inside it are the
-//! basis, and an exchange of marks is a pivot. `add` and `remove` go on by the primal simplex method from a
-//! feasible basis, `shift` by the dual one from a basis that is dual feasible.
+//! basis, and an exchange of marks is a pivot. `Add` and `Remove` go on by the primal simplex method from a
+//! feasible basis, `Shift` by the dual one from a basis that is dual feasible.
 //!
-//! To read: `reading` finds rows and stays. `changing`, `removing`, `shifting` and `keeping` have the ways
-//! of a corner to the best one of another problem, with more rows, with fewer, with other constants, or with
-//! another order of stays; `trying` goes such a way for what an attribute would be, and `starting` one from
-//! nothing. `engine` is what callers use. `laws` has small problems where a removal stops, and what is no
-//! such stop.
+//! To read: `request` (what is asked, and what stops it), `reading` (finds rows and stays). `changing`,
+//! `removing`, `shifting` and `keeping` have the ways of a corner to the best one of another problem, with
+//! more rows, with fewer, with other constants, or with another order of stays; `solving` takes the way of a
+//! request, and `posing` makes its problem without going there. `trying` goes such a way for what an
+//! attribute would be, and `starting` one from nothing. `engine` is what callers use. `laws` has small
+//! problems where a removal stops, and what is no such stop.
 #![tactic(auto)]
 
 mod changing;
 mod engine;
 mod keeping;
 mod laws;
+mod posing;
 mod reading;
 mod removing;
+mod request;
 mod shifting;
+mod solving;
 mod starting;
 mod trying;
 
 pub use engine::{Change, Engine};
 pub use laws::{removals_stop_plainly, some_cannot_leave, some_removals_stop};
-pub use removing::RemoveStop;
+pub use request::{Request, RequestStop};
 pub use starting::{started, started_by_rows};
 pub use trying::TrialStop;

@@ -13,6 +13,7 @@ ghost use Rattle.layout_solver.specs.Removals.{IsEndStop, IsRemoveStop, IsStillS
 ghost use Rattle.layout_solver.specs.Removals.{without, without_attrs};
 ghost use Rattle.layout_solver.specs.Starts.{IsMoved};
 
+use crate::request::RequestStop;
 use cert_core::{Path, RunStop, UnfitPath};
 use corner::Corner;
 use frac_core::{OutOfMemory, Stop};
@@ -20,38 +21,14 @@ use marker_remove::free_row;
 use primal_run::settle;
 use problem_core::{Mark, RowName};
 use std::alloc::Global;
-use thiserror::Error;
-
-/// What ends a removal.
-#[derive(Debug, Drop, Error)]
-pub enum RemoveStop {
-    /// A quantity does not fit while these leaving rows, by number, are still held.
-    #[error("a quantity doesn't fit")]
-    Unfit { still: Vec<u32>, at: UnfitPath },
-    /// The exchanges are used up.
-    #[error("the exchanges are used up")]
-    Spent(Path),
-    #[error("memory is wanting")]
-    OutOfMemory,
-}
-
-impl From<OutOfMemory> for RemoveStop {
-    ghost use Rattle.layout_solver.specs.declared.removing.RemoveStop.TheVariants.{OutOfMemory};
-
-    ghost from_gives = { λ _ stop. stop ≡ OutOfMemory };
-
-    fn from(_: OutOfMemory) -> RemoveStop {
-        RemoveStop::OutOfMemory
-    }
-}
 
 // The stop while these rows are still held.
-fn held_stop(alloc: Global, still: &[u32], at: UnfitPath) -> RemoveStop
+fn held_stop(alloc: Global, still: &[u32], at: UnfitPath) -> RequestStop
     ensures { IsUnfitOf still.now at result }
 {
     match Vec::from_slice(alloc, still) {
-        Ok(still) => RemoveStop::Unfit { still, at },
-        Err(_) => RemoveStop::OutOfMemory,
+        Ok(still) => RequestStop::Unfit { still, at },
+        Err(_) => RequestStop::OutOfMemory,
     }
 }
 
@@ -90,7 +67,7 @@ fn path_without(alloc: Global, c: &Corner, id: u32) -> Result<Path, OutOfMemory>
 }
 
 // Brings a mark of the next leaving row in.
-fn free_next(alloc: Global, c: &mut Corner, rows: &[u32], gone: usize) -> Result<(), RemoveStop>
+fn free_next(alloc: Global, c: &mut Corner, rows: &[u32], gone: usize) -> Result<(), RequestStop>
     requires marked { 0 < length c.old.before }
     requires within { gone < length rows.now }
     requires held { Any (λ r. r.id ≡ get_or rows.now gone 0) c.old.problem.rows }
@@ -107,12 +84,12 @@ fn free_next(alloc: Global, c: &mut Corner, rows: &[u32], gone: usize) -> Result
     match free_row(alloc, c, rows[gone]) {
         Ok(_) => Ok(()),
         Err(RunStop::Unfit(at)) => Err(held_stop(alloc, &rows[gone..], at)),
-        Err(_) => Err(RemoveStop::OutOfMemory),
+        Err(_) => Err(RequestStop::OutOfMemory),
     }
 }
 
 // Takes the next leaving row out, of which a mark is inside.
-fn drop_next(alloc: Global, c: &mut Corner, rows: &[u32], gone: usize) -> Result<(), RemoveStop>
+fn drop_next(alloc: Global, c: &mut Corner, rows: &[u32], gone: usize) -> Result<(), RequestStop>
     requires marked { 0 < length c.old.before }
     requires within { gone < length rows.now }
     requires inside { HasMarkIn c.old.marks (get_or rows.now gone 0) }
@@ -130,12 +107,12 @@ fn drop_next(alloc: Global, c: &mut Corner, rows: &[u32], gone: usize) -> Result
             let path = path_without(alloc, c, id)?;
             Err(held_stop(alloc, &rows[gone + 1..], UnfitPath { path, quantity }))
         }
-        Err(Stop::OutOfMemory) => Err(RemoveStop::OutOfMemory),
+        Err(Stop::OutOfMemory) => Err(RequestStop::OutOfMemory),
     }
 }
 
 // Takes the next leaving row out.
-fn take_next(alloc: Global, c: &mut Corner, rows: &[u32], gone: usize) -> Result<(), RemoveStop>
+fn take_next(alloc: Global, c: &mut Corner, rows: &[u32], gone: usize) -> Result<(), RequestStop>
     requires marked { 0 < length c.old.before }
     requires within { gone < length rows.now }
     requires held { Any (λ r. r.id ≡ get_or rows.now gone 0) c.old.problem.rows }
@@ -152,7 +129,7 @@ fn take_next(alloc: Global, c: &mut Corner, rows: &[u32], gone: usize) -> Result
 }
 
 // Takes rows out, one by one.
-fn drop_rows(alloc: Global, c: &mut Corner, rows: &[u32]) -> Result<(), RemoveStop>
+fn drop_rows(alloc: Global, c: &mut Corner, rows: &[u32]) -> Result<(), RequestStop>
     requires marked { 0 < length c.old.before }
     requires held { All (λ id. Any (λ r. r.id ≡ id) c.old.problem.rows) rows.now }
     requires apart { AllPairs (λ a b. a ≢ b) rows.now }
@@ -186,7 +163,7 @@ fn drop_attrs(c: &mut Corner, attrs: &[u32]) -> Result<(), OutOfMemory>
 }
 
 // Goes on to the best corner, where the required rows have a solution.
-fn settle_left(alloc: Global, c: &mut Corner, budget: u64) -> Result<(), RemoveStop>
+fn settle_left(alloc: Global, c: &mut Corner, budget: u64) -> Result<(), RequestStop>
     requires marked { 0 < length c.old.before }
     requires values { NoNegativeValue c.old.problem c.old.marks }
     requires satisfied { (x : layout.Assignment) × layout.Satisfies c.old.problem x }
@@ -199,18 +176,18 @@ fn settle_left(alloc: Global, c: &mut Corner, budget: u64) -> Result<(), RemoveS
     c.show_corner(); // for the proof: what a corner keeps
     match settle(alloc, c, budget) {
         Ok(()) => Ok(()),
-        Err(RunStop::Unfit(at)) => Err(RemoveStop::Unfit {
+        Err(RunStop::Unfit(at)) => Err(RequestStop::Unfit {
             still: Vec::new(alloc),
             at,
         }),
-        Err(RunStop::Spent(path)) => Err(RemoveStop::Spent(path)),
+        Err(RunStop::Spent(path)) => Err(RequestStop::Spent(path)),
         Err(RunStop::Conflict(_)) => unreachable!(),
-        Err(RunStop::OutOfMemory) => Err(RemoveStop::OutOfMemory),
+        Err(RunStop::OutOfMemory) => Err(RequestStop::OutOfMemory),
     }
 }
 
 // Takes attributes out, and goes on to the best corner.
-fn leave_attrs(alloc: Global, c: &mut Corner, attrs: &[u32], budget: u64) -> Result<(), RemoveStop>
+fn leave_attrs(alloc: Global, c: &mut Corner, attrs: &[u32], budget: u64) -> Result<(), RequestStop>
     requires marked { 0 < length c.old.before }
     requires held { All (HasStay c.old.problem.stays) attrs.now }
     requires apart { AllPairs (λ a b. a ≢ b) attrs.now }
@@ -240,7 +217,7 @@ fn take_out(
     rows: &[u32],
     attrs: &[u32],
     budget: u64,
-) -> Result<(), RemoveStop>
+) -> Result<(), RequestStop>
     requires marked { 0 < length c.old.before }
     requires leave { CanLeave (record { rows = rows.now; attrs = attrs.now }) c.old.problem }
     requires values { NoNegativeValue c.old.problem c.old.marks }
@@ -267,7 +244,7 @@ pub(crate) fn shrink(
     rows: &[u32],
     attrs: &[u32],
     budget: u64,
-) -> Result<(), RemoveStop>
+) -> Result<(), RequestStop>
     requires marked { 0 < length c.old.before }
     requires values { NoNegativeValue c.old.problem c.old.marks }
     requires leave { CanLeave (record { rows = rows.now; attrs = attrs.now }) c.old.problem }

@@ -63,7 +63,8 @@ fn fill(
 /// The best corner of the problem of these stays and rows, marked, to which a run leads from where all rows
 /// have joined, each with its mark that isn't negative at the targets of the stays.
 ///
-/// The stops are those of `Engine::add` on an engine that holds nothing but these attributes at the targets.
+/// The stops are those of `Engine::solve`, where the rows are added to an engine that holds nothing but these
+/// attributes at the targets.
 pub fn started(alloc: Global, stays: &[Stay], rows: &[Row], budget: u64) -> Result<Corner, RunStop>
     requires whole { IsWhole (as_problem rows.now stays.now) }
     ensures problem { IfOk result (λ c. c.problem ≡ as_problem rows.now stays.now) }

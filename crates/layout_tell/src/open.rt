@@ -1,105 +1,66 @@
 // What would pin the attributes that could be elsewhere.
 use crate::finding::Finding;
-use crate::rows::{put_attr, put_frac};
-use diagnosis::Diagnosis;
-use frac_core::{Frac, OutOfMemory};
-use serde_json::{Value, push};
+use crate::telling::Telling;
+use frac_core::{Frac, Wide};
+use serde_json::Value;
 use session_undo::Session;
-use std::alloc::Global;
+use span_text::lines;
+use tell_mend::{Reader, put_pin};
 
-// The first number that a script can't write.
-const BOUND: u64 = 1_000_000;
-
-// A weak wish for 0, so that it is as small as what is inside lets it be.
-fn put_hug(out: &mut String, attr: &str) -> Result<(), OutOfMemory> {
-    write!(out, "constrain pin {attr} == 0 @50")?;
-    Ok(())
-}
-
-// A weak wish for the value that there is.
-fn put_place(out: &mut String, attr: &str, value: Frac) -> Result<(), OutOfMemory> {
-    let (num, den) = (value.num(), value.den());
-    if num.unsigned_abs() >= BOUND || den.unsigned_abs() >= BOUND {
-        out.push_str("a line that names it")?;
-    } else if den == 1 {
-        write!(out, "constrain pin {attr} == {num} @50")?;
-    } else {
-        write!(out, "constrain pin {den}*{attr} == {num} @50")?;
-    }
-    Ok(())
-}
-
-// A line that pins the attribute: the window has a size, another size hugs what is inside, an edge stays.
-fn put_pin(out: &mut String, attr: &str, value: Frac) -> Result<(), OutOfMemory> {
-    if attr == "window.width" || attr == "window.height" {
-        out.push_str("window WIDTH HEIGHT")?;
-        return Ok(());
-    }
-    match attr.ends_with(".width") || attr.ends_with(".height") {
-        true => put_hug(out, attr),
-        false => put_place(out, attr, value),
+// The present value of an attribute, if a view has one of this name.
+fn value_of(session: &Session, attr: &str) -> Option<Frac> {
+    let (name, word) = attr.split_once('.')?;
+    let view = session.state().tree().find(name)?;
+    let [left, top, width, height] = session.frame(view)?;
+    match word {
+        "left" => Some(left),
+        "top" => Some(top),
+        "width" => Some(width),
+        "height" => Some(height),
+        _ => None,
     }
 }
 
-// Gives the object a fraction as a text.
-fn set_frac(alloc: Global, item: &mut Finding, key: &str, value: Frac) -> Result<(), OutOfMemory> {
-    let mut text = String::new(alloc);
-    put_frac(&mut text, value)?;
-    item.set_text(key, &text)
+// The object of an attribute that could be elsewhere.
+fn item_of(reader: &mut Reader, session: &Session, attr: &str, reach: &str) -> Finding {
+    let mut item = Finding::new(reader.alloc());
+    let mut text = Vec::new(reader.alloc());
+    let value = value_of(session, attr).unwrap_or(Frac::zero());
+    item.set_text("attribute", attr.as_bytes());
+    item.set_text("reach", reach.as_bytes());
+    reader.put_frac(&mut text, Wide::from(value));
+    item.set_text("value", &text);
+    text.clear();
+    put_pin(reader, &mut text, attr, value);
+    item.set_text("pin", &text);
+    drop(text);
+    item
 }
 
-// Says how it would be pinned.
-fn set_pin(alloc: Global, item: &mut Finding, attr: &str, value: Frac) -> Result<(), OutOfMemory> {
-    let mut text = String::new(alloc);
-    put_pin(&mut text, attr, value)?;
-    item.set_text("pin", &text)
-}
-
-// An attribute's name.
-fn name_of(alloc: Global, session: &Session, attr: u32) -> Result<String, OutOfMemory> {
-    let mut name = String::new(alloc);
-    put_attr(&mut name, session, attr)?;
-    Ok(name)
-}
-
-// Says of an attribute that it is at a value and could be at another.
-fn set_item(
-    alloc: Global,
-    item: &mut Finding,
-    name: &str,
-    value: Frac,
-    reach: Frac,
-) -> Result<(), OutOfMemory> {
-    item.set_text("attribute", name)?;
-    set_frac(alloc, item, "value", value)?;
-    set_frac(alloc, item, "reach", reach)?;
-    set_pin(alloc, item, name, value)
-}
-
-// The object of an attribute that is at a value and could be at another.
-fn item_of(alloc: Global, session: &Session, attr: u32, reach: Frac) -> Result<Value, OutOfMemory> {
-    let name = name_of(alloc, session, attr)?;
-    let value = session.engine().value(attr).unwrap_or(reach);
-    let mut item = Finding::new(alloc);
-    match set_item(alloc, &mut item, &name, value, reach) {
-        Ok(()) => Ok(item.value()),
-        Err(stop) => {
-            drop(item);
-            Err(stop)
+impl Telling<'_> {
+    // Appends the object of the attribute that a line of the reply says could be elsewhere, if it says so.
+    fn push_open(&mut self, items: &mut Vec<Value>, line: &[u8]) {
+        let line = std::str::from_utf8(line).unwrap_or("");
+        if let Some(rest) = line.strip_prefix("ambiguous ") {
+            let (attr, reach) = rest.split_once(' ').unwrap_or((rest, ""));
+            let item = item_of(&mut self.reader, self.session, attr, reach);
+            self.finding.push_item(items, item);
         }
     }
-}
 
-/// The attributes that could be elsewhere, each with its value, another one, and what would pin it.
-pub fn open_items(
-    alloc: Global,
-    session: &Session,
-    found: &Diagnosis,
-) -> Result<Vec<Value>, OutOfMemory> {
-    let mut items = Vec::new(alloc);
-    for (attr, reach) in &found.moving {
-        let item = item_of(alloc, session, *attr, *reach)?;
-        push(&mut items, item)?;
+    /// Says which attributes could be elsewhere by the reply to `diagnose`, each with its value, another one,
+    /// and what would pin it.
+    pub fn set_open(&mut self) {
+        let mut items = Vec::new(self.alloc());
+        for line in lines(self.reply) {
+            self.push_open(&mut items, line.bytes);
+        }
+        if !items.is_empty() {
+            self.finding.set_count("line", self.number);
+            self.finding.set_number("column", 1);
+            self.finding.set_text("text", self.line);
+            self.finding.set_text("reply", b"what no line decides");
+        }
+        self.finding.set_items("open", items);
     }
-    Ok(items)
 }

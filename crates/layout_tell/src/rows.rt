@@ -1,105 +1,66 @@
 // Rows in words, and the lines that they come from.
-use crate::bytes::find_word;
 use crate::finding::Finding;
-use crate::here::Here;
-use crate::owners::Owner;
-use cert_core::{By, Conflict};
-use frac_core::{Frac, OutOfMemory};
-use problem_core::{Problem, REQUIRED, Row, RowName, Term};
+use crate::telling::Telling;
+use frac_core::Wide;
+use problem_core::{REQUIRED, Row, Term};
 use reply_texts::push_attr;
-use serde_json::{Value, push};
 use session_undo::Session;
-use span_text::first_word;
+use tell_mend::{Reader, Word, line_at, word_of};
 
-const WAY_OUT: &str = "give one of these lines a priority, as @750, or take it out";
-
-const ALONE: &str = "no layout satisfies this line, whatever else there is: mend it";
-
-const BOUND: &str =
-    "no width and no height is below 0, and the window begins at 0, 0: mend this line";
-
-const NUMBER: &str = "take another number, or give one of the other lines a priority, as @750";
-
-const DRAG: &str = "a suggestion of 1000 is required: take a smaller priority, or none for 750";
-
-const ALIGNED: &str =
-    "views with nothing between them touch: to align them alone, `constrain` one with the other";
-
-/// Appends a fraction.
-pub fn put_frac(out: &mut String, value: Frac) -> Result<(), OutOfMemory> {
-    let (num, den) = (value.num(), value.den());
-    write!(out, "{num}")?;
-    if den != 1 {
-        write!(out, "/{den}")?;
+// The sign in front of a term.
+fn sign_of(term: &Term, is_first: bool) -> &'static [u8] {
+    match (is_first, term.by < 0) {
+        (true, false) => b"",
+        (true, true) => b"-",
+        (false, false) => b" + ",
+        (false, true) => b" - ",
     }
-    Ok(())
 }
 
-/// Appends an attribute's name.
-pub fn put_attr(out: &mut String, session: &Session, attr: u32) -> Result<(), OutOfMemory> {
-    let mut name = Vec::new(*out.allocator());
-    push_attr(&mut name, session.state().tree(), attr)?;
-    out.push_str(std::str::from_utf8(&name).unwrap_or(""))?;
-    Ok(())
-}
-
-// Appends the sign in front of a term.
-fn put_sign(out: &mut String, is_first: bool, is_negative: bool) -> Result<(), OutOfMemory> {
-    let sign = match (is_first, is_negative) {
-        (true, false) => "",
-        (true, true) => "-",
-        (false, false) => " + ",
-        (false, true) => " - ",
-    };
-    out.push_str(sign)?;
-    Ok(())
-}
-
-// Appends a term behind its sign.
-fn put_term(out: &mut String, session: &Session, term: &Term) -> Result<(), OutOfMemory> {
-    let by = term.by.unsigned_abs();
+// Appends a term.
+fn put_term(reader: &mut Reader, out: &mut Vec<u8>, session: &Session, term: &Term) {
+    let by = term.by.saturating_abs();
     if by != 1 {
-        write!(out, "{by}*")?;
+        reader.put_number(out, by);
+        reader.put(out, b"*");
     }
-    put_attr(out, session, term.attr)
+    reader.fail_if(push_attr(out, session.state().tree(), term.attr).is_err());
 }
 
 // Appends the sum of terms.
-fn put_terms(out: &mut String, session: &Session, terms: &[Term]) -> Result<(), OutOfMemory> {
+fn put_terms(reader: &mut Reader, out: &mut Vec<u8>, session: &Session, terms: &[Term]) {
     for (place, term) in terms.iter().enumerate() {
-        put_sign(out, place == 0, term.by < 0)?;
-        put_term(out, session, term)?;
+        reader.put(out, sign_of(term, place == 0));
+        put_term(reader, out, session, term);
     }
     if terms.is_empty() {
-        out.push('0')?;
+        reader.put(out, b"0");
     }
-    Ok(())
-}
-
-// Appends by what both sides of a row are multiplied, and its priority, where these aren't the usual ones.
-fn put_scale(out: &mut String, row: &Row) -> Result<(), OutOfMemory> {
-    let (scale, rank) = (row.scale(), row.rank());
-    if scale != 1 {
-        write!(out, ", both sides times {scale}")?;
-    }
-    if rank != REQUIRED {
-        write!(out, " @{rank}")?;
-    }
-    Ok(())
 }
 
 // Appends a row as a relation.
-fn put_row(out: &mut String, session: &Session, row: &Row) -> Result<(), OutOfMemory> {
-    put_terms(out, session, row.terms())?;
-    let rel = row.rel().word();
-    write!(out, " {rel} ")?;
-    put_frac(out, row.constant())?;
-    put_scale(out, row)
+fn put_row(reader: &mut Reader, out: &mut Vec<u8>, session: &Session, row: &Row) {
+    put_terms(reader, out, session, row.terms());
+    reader.put_all(out, &[b" ", row.rel().word().as_bytes(), b" "]);
+    reader.put_frac(out, Wide::from(row.constant()));
+    if row.scale() != 1 {
+        reader.put(out, b", both sides times ");
+        reader.put_number(out, row.scale());
+    }
+    if row.rank() != REQUIRED {
+        reader.put(out, b" @");
+        reader.put_number(out, row.rank() as i64);
+    }
 }
 
-// The row of this number, if it is there.
-fn row_of(rows: &[Row], id: u32) -> Option<&Row> {
-    rows.iter().find(|row| row.id() == id)
+/// The row of this number, if it is there.
+pub fn row_of(rows: &[Row], id: u32) -> Option<&Row> {
+    for row in rows {
+        if row.id() == id {
+            return Some(row);
+        }
+    }
+    None
 }
 
 // Whether a row that is held has another constant in the problem of a line.
@@ -110,188 +71,63 @@ fn is_moved(session: &Session, row: &Row) -> bool {
     }
 }
 
-// What a row comes from.
+/// What a row comes from.
 #[derive(Clone, Copy)]
-enum Source<'a> {
+pub struct Source {
+    /// The number of the line, and 0 for the window itself.
+    pub number: usize,
     /// The refused line.
-    Own,
-    /// A line that makes views, or the window: it holds without being said.
-    Bound(Option<Owner<'a>>),
-    /// Another line.
-    Line(Owner<'a>),
+    pub is_own: bool,
+    /// A line that makes views, or the window: the row holds without being said.
+    pub is_bound: bool,
 }
 
-// What an owner's row comes from.
-fn source_by(owner: Owner<'_>) -> Source<'_> {
-    match first_word(owner.text) {
-        Some((b"view" | b"tree", _)) => Source::Bound(Some(owner)),
-        _ => Source::Line(owner),
-    }
-}
-
-// What the row of this number comes from.
-fn source_of(here: Here<'_>, id: u32) -> Source<'_> {
-    match here.owners.of(id) {
-        Some(owner) => source_by(owner),
-        None if id < here.owners.next() => Source::Bound(None),
-        None => Source::Own,
-    }
-}
-
-// Says which line it is.
-fn set_line(item: &mut Finding, number: usize, text: &[u8]) -> Result<(), OutOfMemory> {
-    item.set_number("line", number)?;
-    item.set_bytes("text", text)
-}
-
-// Says from which line the row of this number is.
-fn set_source(here: Here<'_>, item: &mut Finding, id: u32) -> Result<(), OutOfMemory> {
-    match source_of(here, id) {
-        Source::Own => set_line(item, here.line.number, here.line.text),
-        Source::Line(owner) => set_line(item, owner.line, owner.text),
-        Source::Bound(owner) => {
-            item.set_text("note", ", which holds without being said")?;
-            match owner {
-                Some(owner) => set_line(item, owner.line, owner.text),
-                None => Ok(()),
-            }
+impl Telling<'_> {
+    /// What the row of this number comes from.
+    pub fn source_of(&self, id: u32) -> Source {
+        let owner = self.owners.of(id);
+        let number = owner.unwrap_or(self.number);
+        let is_own = owner.is_none();
+        let makes = matches!(
+            word_of(line_at(self.script, number)).0,
+            Word::View | Word::Tree
+        );
+        Source {
+            number,
+            is_own,
+            is_bound: !is_own && (number == 0 || makes),
         }
     }
-}
 
-// Says what the row is, as the line has it.
-fn set_row(here: Here<'_>, item: &mut Finding, row: &Row) -> Result<(), OutOfMemory> {
-    let mut words = String::new(here.reader.alloc);
-    put_row(&mut words, here.session, row)?;
-    item.set_text("row", &words)?;
-    if is_moved(here.session, row) {
-        item.set_text("note", ", as the refused line would have it")?;
-    }
-    Ok(())
-}
-
-// Says all of a multiplier and its row.
-fn set_all(here: Here<'_>, item: &mut Finding, row: &Row, times: i64) -> Result<(), OutOfMemory> {
-    item.set("times", Value::from(times))?;
-    set_source(here, item, row.id())?;
-    set_row(here, item, row)
-}
-
-// The object of a multiplier and its row.
-fn item_of(here: Here<'_>, row: &Row, times: i64) -> Result<Value, OutOfMemory> {
-    let mut item = Finding::new(here.reader.alloc);
-    match set_all(here, &mut item, row, times) {
-        Ok(()) => Ok(item.value()),
-        Err(stop) => {
-            drop(item);
-            Err(stop)
+    // Says from which line the row of this number is.
+    fn set_source(&self, item: &mut Finding, id: u32) {
+        let source = self.source_of(id);
+        if source.is_bound {
+            item.set_text("note", b", which holds without being said");
+        }
+        if source.number > 0 {
+            item.set_count("line", source.number);
+            item.set_text("text", line_at(self.script, source.number));
         }
     }
-}
 
-// The row of the problem that a multiplier is of.
-fn row_by<'a>(problem: &'a Problem, by: &By) -> Option<&'a Row> {
-    match by.row {
-        RowName::Held(id) => row_of(problem.rows(), id),
-        RowName::Stay(_) => None,
-    }
-}
-
-// Appends the object of a multiplier.
-fn push_by(
-    here: Here<'_>,
-    items: &mut Vec<Value>,
-    problem: &Problem,
-    by: &By,
-) -> Result<(), OutOfMemory> {
-    if let Some(row) = row_by(problem, by) {
-        let item = item_of(here, row, by.times)?;
-        push(items, item)?;
-    }
-    Ok(())
-}
-
-/// The rows of a conflict with their multipliers, each in words and with the line that it is from. The
-/// problem is the one that the refused line would solve.
-pub fn conflict_rows(
-    here: Here<'_>,
-    problem: &Problem,
-    conflict: &Conflict,
-) -> Result<Value, OutOfMemory> {
-    let mut items = Vec::new(here.reader.alloc);
-    for by in conflict.by() {
-        push_by(here, &mut items, problem, by)?;
-    }
-    Ok(Value::from(items))
-}
-
-/// What way there is out of a conflict, and whether the line as a wish is one.
-#[derive(Clone, Copy)]
-pub struct Way {
-    pub what: &'static str,
-    pub has_wish: bool,
-}
-
-// From what the rows of a conflict are.
-#[derive(Clone, Copy)]
-struct Met {
-    is_bound: bool,
-    is_line: bool,
-}
-
-// From what the rows of these multipliers are.
-fn meets(here: Here<'_>, bys: &[By]) -> Met {
-    let mut met = Met {
-        is_bound: false,
-        is_line: false,
-    };
-    for by in bys {
-        if let RowName::Held(id) = by.row {
-            match source_of(here, id) {
-                Source::Own => (),
-                Source::Bound(_) => met.is_bound = true,
-                Source::Line(_) => met.is_line = true,
-            }
+    // Says what the row is, as the line has it.
+    fn set_row(&mut self, item: &mut Finding, row: &Row) {
+        let mut words = Vec::new(self.alloc());
+        put_row(&mut self.reader, &mut words, self.session, row);
+        item.set_text("row", &words);
+        if is_moved(self.session, row) {
+            item.set_text("note", b", as the refused line would have it");
         }
+        drop(words);
     }
-    met
-}
 
-// A way out that is no wish.
-fn no_wish(what: &'static str) -> Way {
-    Way {
-        what,
-        has_wish: false,
-    }
-}
-
-// The way out for a format.
-fn format_way(line: &[u8]) -> Way {
-    match find_word(line, 0, b"align") {
-        Some(_) => no_wish(ALIGNED),
-        None => no_wish(WAY_OUT),
-    }
-}
-
-// The way out where other lines stand against this one.
-fn way_by_line(line: &[u8]) -> Way {
-    match first_word(line) {
-        Some((b"constrain", _)) => Way {
-            what: WAY_OUT,
-            has_wish: true,
-        },
-        Some((b"vfl", _)) => format_way(line),
-        Some((b"suggest", _)) => no_wish(DRAG),
-        _ => no_wish(NUMBER),
-    }
-}
-
-/// What way there is out of a conflict.
-pub fn way_out(here: Here<'_>, conflict: &Conflict) -> Way {
-    let met = meets(here, conflict.by());
-    match (met.is_line, met.is_bound) {
-        (true, _) => way_by_line(here.line.text),
-        (false, true) => no_wish(BOUND),
-        (false, false) => no_wish(ALONE),
+    /// A multiplier and its row, in words and with the line that it is from.
+    pub fn item_of(&mut self, row: &Row, times: i64) -> Finding {
+        let mut item = Finding::new(self.alloc());
+        item.set_number("times", times);
+        self.set_source(&mut item, row.id());
+        self.set_row(&mut item, row);
+        item
     }
 }

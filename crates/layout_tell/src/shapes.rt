@@ -1,11 +1,10 @@
 // What of a tree has another shape than a tree's, and where it stands.
-use crate::bytes::{cut, word_len};
-use crate::finding::Finding;
-use crate::marks::{put_place, tree_text};
-use crate::misuse::argument_place;
-use frac_core::OutOfMemory;
+use crate::finding::items_of;
+use crate::syntax::tree_text;
+use crate::telling::Telling;
 use serde_json::{Map, Value};
-use std::alloc::Global;
+use span_text::pieces::{begins_with_letter, word_len};
+use tell_mend::{Reader, argument_place, quoted_place};
 
 const OBJECT: &str = "a view is an object there, as `{\"name\":\"card\"}`";
 
@@ -32,30 +31,27 @@ struct Fault<'v> {
     sign: &'v str,
 }
 
-// Whether the text is a name.
-fn is_name(text: &str) -> bool {
-    let bytes = text.as_bytes();
-    let has_digit = bytes.first().is_some_and(|b| b.is_ascii_digit());
-    !has_digit && !bytes.is_empty() && word_len(bytes) == bytes.len()
+// This fault.
+fn wrong<'v>(what: &'static str, sign: &'v str) -> Option<Fault<'v>> {
+    Some(Fault { what, sign })
 }
 
 // What is wrong with a key.
-fn key_fault(key: &str, is_outermost: bool) -> &'static str {
+fn key_fault(key: &str, is_outermost: bool) -> Option<Fault<'_>> {
     match key {
-        "name" | "children" => "",
-        "in" if is_outermost => "",
-        "in" => INNER,
-        _ => KEY,
+        "name" | "children" => None,
+        "in" if is_outermost => None,
+        "in" => wrong(INNER, key),
+        _ => wrong(KEY, key),
     }
 }
 
 // What is wrong with the keys.
 fn keys_fault(members: &Map<String, Value>, is_outermost: bool) -> Option<Fault<'_>> {
     for (key, _) in members.iter() {
-        let what = key_fault(key.as_str(), is_outermost);
-        if !what.is_empty() {
-            let sign = key.as_str();
-            return Some(Fault { what, sign });
+        let found = key_fault(key.as_str(), is_outermost);
+        if found.is_some() {
+            return found;
         }
     }
     None
@@ -63,132 +59,77 @@ fn keys_fault(members: &Map<String, Value>, is_outermost: bool) -> Option<Fault<
 
 // What is wrong with the name under this key.
 fn name_fault<'v>(value: &'v Value, key: &'v str) -> Option<Fault<'v>> {
-    match value.as_str() {
-        Some(name) if is_name(name) => None,
-        Some("") => Some(Fault {
-            what: NAME,
-            sign: key,
-        }),
-        Some(sign) => Some(Fault { what: NAME, sign }),
-        None => Some(Fault {
-            what: TEXT,
-            sign: key,
-        }),
+    let Some(name) = value.as_str() else {
+        return wrong(TEXT, key);
+    };
+    let bytes = name.as_bytes();
+    if begins_with_letter(bytes) && word_len(bytes) == bytes.len() {
+        None
+    } else {
+        wrong(NAME, if name.is_empty() { key } else { name })
     }
 }
 
-// What is wrong with the object's name, or with the one of the view that it is in.
-fn names_fault<'v>(value: &'v Value) -> Option<Fault<'v>> {
-    if let Some(place) = value.get("in") {
-        let fault = name_fault(place, "in");
-        if fault.is_some() {
-            return fault;
-        }
-    }
-    match value.get("name") {
-        Some(name) => name_fault(name, "name"),
-        None => Some(Fault {
-            what: NO_NAME,
-            sign: "",
-        }),
-    }
-}
-
-// What is wrong with the object's children, as far as it is no list.
-fn children_fault(value: &Value) -> Option<Fault<'_>> {
-    match value.get("children") {
-        Some(Value::Array(_)) | None => None,
-        Some(_) => Some(Fault {
-            what: LIST,
-            sign: "children",
-        }),
-    }
-}
-
-// What is wrong with what stands for an object, but for its children.
+// What is wrong with what stands for an object, except for what its children are.
 fn fault_of(value: &Value, is_outermost: bool) -> Option<Fault<'_>> {
-    match value.as_object() {
-        Some(members) => keys_fault(members, is_outermost)
-            .or(names_fault(value))
-            .or(children_fault(value)),
-        None => Some(Fault {
-            what: OBJECT,
-            sign: value.as_str().unwrap_or(""),
-        }),
-    }
+    let Some(members) = value.as_object() else {
+        return wrong(OBJECT, value.as_str().unwrap_or(""));
+    };
+    let place = match value.get("in") {
+        Some(place) => name_fault(place, "in"),
+        None => None,
+    };
+    let name = match value.get("name") {
+        Some(name) => name_fault(name, "name"),
+        None => wrong(NO_NAME, ""),
+    };
+    let children = match value.get("children") {
+        Some(Value::Array(_)) | None => None,
+        Some(_) => wrong(LIST, "children"),
+    };
+    keys_fault(members, is_outermost)
+        .or(place)
+        .or(name)
+        .or(children)
 }
 
-// Lists the object's children in front of what is left.
-fn list_children<'v>(left: &mut Vec<&'v Value>, value: &'v Value) -> Result<(), OutOfMemory> {
-    if let Some(Value::Array(children)) = value.get("children") {
-        for place in 0..children.len() {
-            if let Some(child) = children.get(
-                children.len().saturating_sub(place).saturating_sub(1),
-            ) {
-                left.push(child)?;
-            }
-        }
-    }
-    Ok(())
-}
-
-// What is wrong with the first of these objects, and those in it, with which anything is.
-fn first_fault<'v>(left: &mut Vec<&'v Value>) -> Result<Option<Fault<'v>>, OutOfMemory> {
+// What is wrong with the first of these objects, and those in it, with which anything is. The children of one
+// come in front of what is left.
+fn first_fault<'v>(reader: &mut Reader, left: &mut Vec<&'v Value>) -> Option<Fault<'v>> {
     for place in 0..OBJECTS {
-        let Some(value) = left.pop() else {
-            return Ok(None);
-        };
-        let fault = fault_of(value, place == 0);
-        if fault.is_some() {
-            return Ok(fault);
+        let value = left.pop()?;
+        let found = fault_of(value, place == 0);
+        if found.is_some() {
+            return found;
         }
-        list_children(left, value)?;
-    }
-    Ok(None)
-}
-
-// Where the sign stands behind this place, or this place.
-fn sign_place(line: &[u8], start: usize, sign: &str) -> usize {
-    for at in start..line.len() {
-        let (front, rest) = cut(line, at);
-        if front.ends_with(b"\"") && rest.starts_with(sign.as_bytes()) && !sign.is_empty() {
-            return at;
+        for child in items_of(value, "children").iter().rev() {
+            reader.fail_if(left.push(child).is_err());
         }
     }
-    start
+    None
 }
 
-// Says what is wrong with the value, and where.
-fn set_fault(
-    alloc: Global,
-    finding: &mut Finding,
-    line: &[u8],
-    start: usize,
-    value: &Value,
-) -> Result<(), OutOfMemory> {
-    let mut left = Vec::new(alloc);
-    left.push(value)?;
-    let found = first_fault(&mut left);
-    drop(left);
-    match found? {
-        Some(fault) => {
-            put_place(finding, line, sign_place(line, start, fault.sign))?;
-            finding.set_lines("cure", fault.what)
+impl Telling<'_> {
+    // Says what is wrong with the value, and where.
+    fn set_fault(&mut self, value: &Value, start: usize) {
+        let mut left = Vec::new(self.alloc());
+        self.reader.fail_if(left.push(value).is_err());
+        if let Some(found) = first_fault(&mut self.reader, &mut left) {
+            self.set_place(quoted_place(self.line, start, found.sign.as_bytes()));
+            self.set_cure(found.what.as_bytes());
         }
-        None => Ok(()),
+        drop(left);
     }
-}
 
-/// Says where the tree of a line has another shape than a tree's, and what stands there.
-pub fn set_shape(alloc: Global, finding: &mut Finding, line: &[u8]) -> Result<(), OutOfMemory> {
-    let start = argument_place(line).unwrap_or(0);
-    match Value::from_str(alloc, tree_text(line, start)) {
-        Ok(value) => {
-            let end = set_fault(alloc, finding, line, start, &value);
-            drop(value);
-            end
+    /// Says where the tree of the line has another shape than a tree's, and what stands there.
+    pub fn set_shape(&mut self) {
+        let start = argument_place(self.line);
+        match Value::from_str(self.alloc(), tree_text(self.line, start)) {
+            Ok(value) => {
+                self.set_fault(&value, start);
+                drop(value);
+            }
+            Err(stop) => self.reader.fail_if(stop.is_memory()),
         }
-        Err(stop) if stop.is_memory() => Err(OutOfMemory),
-        Err(_) => Ok(()),
     }
 }

@@ -1,166 +1,165 @@
-// What is told of a refused line.
-use crate::bytes::cut;
-use crate::causes::{cause_of, form_of};
-use crate::clashing::set_conflict;
-use crate::finding::Finding;
-use crate::forward::{first_line, set_so};
-use crate::here::{Here, ScriptLine};
-use crate::leaving::set_syntax;
-use crate::marks::{mark_place, put_place};
-use crate::misuse::{align_cure, limit_place, misuse_place};
-use crate::naming::{set_taken, set_unknown};
-use crate::problem::is_own;
-use crate::shapes::set_shape;
-use crate::talk::text_of;
+// What is said of a refused line.
+use crate::asked::Asked;
+use crate::finding::{Finding, put_json, text_of};
+use crate::limits::put_why;
+use crate::owners::Owners;
+use crate::people::put_people;
+use crate::problem::{is_own, put_early};
 use frac_core::OutOfMemory;
-use session_undo::{Refusal, Reply, StopPlace};
-use span_text::first_word;
+use session_undo::Session;
+use std::alloc::Global;
+use tell_mend::{
+    Reader, align_cure, before_sign, cause_of, char_count, cut, first_piece, form_of, parted,
+};
 
-const SUGGESTED: &str = "its priority is the first one's; `release` it first for another";
+const SUGGESTED: &[u8] = b"its priority is the first one's; `release` it first for another";
 
-// Of a run that stopped at this place.
-fn set_stopped(
-    finding: &mut Finding,
-    line: ScriptLine<'_>,
-    place: &StopPlace,
-) -> Result<(), OutOfMemory> {
-    if !is_own(place) {
-        return Ok(());
+/// A line of a script and its reply; what the line comes to: the session, and the lines that its rows are
+/// from; and what is said of it.
+#[derive(Drop)]
+pub struct Telling<'a> {
+    pub reader: Reader,
+    pub finding: Finding,
+    pub session: &'a Session,
+    pub owners: &'a Owners,
+    pub script: &'a [u8],
+    /// The line's number, counted from 1.
+    pub number: usize,
+    pub line: &'a [u8],
+    pub reply: &'a [u8],
+}
+
+/// The first line of a reply.
+pub fn head_of(reply: &[u8]) -> &str {
+    std::str::from_utf8(parted(reply, b'\n').0).unwrap_or("")
+}
+
+impl<'a> Telling<'a> {
+    /// Where texts are kept.
+    pub fn alloc(&self) -> Global {
+        self.reader.alloc()
     }
-    let number = line.number;
-    let mut cure = String::new(finding.alloc());
-    write!(
-        cure,
-        "`layout_tell problem {number}` prints its problem and path, for `layout check`"
-    )?;
-    finding.set_lines("cure", &cure)
-}
 
-// Where a cause shows, by the words that name it.
-fn cause_place(here: Here<'_>, words: &str, mark: &str) -> usize {
-    let line = here.line.text;
-    misuse_place(here.session, line, words)
-        .or(limit_place(line, words))
-        .unwrap_or(mark_place(line, mark))
-}
-
-// Says what the cause alone has to say, and where it shows.
-fn set_cause(here: Here<'_>, finding: &mut Finding, words: &str) -> Result<(), OutOfMemory> {
-    match cause_of(words) {
-        Some(cause) => {
-            finding.set_text("why", cause.why)?;
-            put_place(
-                finding,
-                here.line.text,
-                cause_place(here, words, cause.mark),
-            )
+    /// Appends what is said, for whom it is asked for, if anything is.
+    pub fn put(self, asked: Asked, out: &mut Vec<u8>) -> Result<(), OutOfMemory> {
+        let (mut reader, finding) = (self.reader, self.finding);
+        reader.fail_if(finding.is_short);
+        let value = finding.value();
+        match asked {
+            _ if text_of(&value, "reply").is_empty() => (),
+            Asked::Json => put_json(&mut reader, out, &value),
+            _ => put_people(&mut reader, out, &value),
         }
-        None => put_place(finding, here.line.text, 0),
+        drop(value);
+        reader.done()
     }
-}
 
-// Says that a later suggestion has no priority.
-fn set_suggested(here: Here<'_>, finding: &mut Finding) -> Result<(), OutOfMemory> {
-    finding.set_lines("cure", SUGGESTED)?;
-    match here.line.text.iter().position(|b| *b == b'@') {
-        Some(at) => set_so(here, finding, cut(here.line.text, at).0.trim_ascii_end()),
-        None => Ok(()),
+    /// Says where in the line it is: column and width count characters, the first of them is 1; the offset
+    /// counts bytes.
+    pub fn set_place(&mut self, at: usize) {
+        let (front, rest) = cut(self.line, at);
+        let column = char_count(front).saturating_add(1);
+        let width = char_count(first_piece(rest)).max(1);
+        self.finding.set_count("offset", at);
+        self.finding.set_count("column", column);
+        self.finding.set_count("width", width);
     }
-}
 
-// Says what more there is to be said of a wrong use, by the words that name it.
-fn set_misuse(here: Here<'_>, finding: &mut Finding, words: &str) -> Result<(), OutOfMemory> {
-    match words {
-        "kind align" => finding.set_lines("cure", align_cure(here.line.text)),
-        "kind suggested" => set_suggested(here, finding),
-        "kind tree" => set_shape(here.reader.alloc, finding, here.line.text),
-        _ => Ok(()),
+    /// Says how the line is cured.
+    pub fn set_cure(&mut self, cure: &[u8]) {
+        self.finding.set_lines("cure", cure);
     }
-}
 
-// Says what only a refusal by a name or by rows has to say.
-fn set_refusal(
-    here: Here<'_>,
-    finding: &mut Finding,
-    refusal: &Refusal,
-) -> Result<(), OutOfMemory> {
-    match refusal {
-        Refusal::Syntax(at) => set_syntax(here, finding, *at),
-        Refusal::Unknown(name) => set_unknown(here, finding, name.bytes()),
-        Refusal::Taken(name) => set_taken(here, finding, name.bytes()),
-        Refusal::Conflict(by) => set_conflict(here, finding, by),
-        _ => set_end(here, finding, refusal),
-    }
-}
-
-// Says what only a refusal by a run's end has to say.
-fn set_end(here: Here<'_>, finding: &mut Finding, refusal: &Refusal) -> Result<(), OutOfMemory> {
-    match refusal {
-        Refusal::Overflow { place, .. } | Refusal::Spent { place, .. } => {
-            set_stopped(finding, here.line, place)
+    /// Puts a line forward, and says by what it would be refused in its turn before anything is solved.
+    pub fn set_so(&mut self, text: &[u8]) {
+        self.finding.set_text("mended", text);
+        let mut reply = Vec::new(self.alloc());
+        put_early(&mut self.reader, self.session, text, &mut reply);
+        if !reply.is_empty() {
+            self.finding.set_text("then", head_of(&reply).as_bytes());
         }
-        Refusal::OutOfMemory => Err(OutOfMemory),
-        _ => Ok(()),
+        drop(reply);
     }
-}
 
-// What the reply's words behind `refused` and its number are.
-fn behind_number(reply: &str) -> &str {
-    cut_words(reply.strip_prefix("refused ").unwrap_or(""))
-}
-
-// The text behind its first word and a blank.
-fn cut_words(text: &str) -> &str {
-    match text.split_once(' ') {
-        Some((_, words)) => words,
-        None => "",
+    // Says what the cause alone has to say, and where it shows.
+    fn set_cause(&mut self, words: &str) {
+        let cause = cause_of(words);
+        let mut why = Vec::new(self.alloc());
+        put_why(
+            &mut self.reader,
+            &mut why,
+            words,
+            cause.why,
+            &self.session.limits(),
+        );
+        self.finding.set_text("why", &why);
+        drop(why);
+        self.set_place(self.cause_place(words, cause.mark));
     }
-}
 
-// Says which line it is, its reply, and the form of its command.
-fn set_head(finding: &mut Finding, line: ScriptLine<'_>, reply: &str) -> Result<(), OutOfMemory> {
-    finding.set_number("line", line.number)?;
-    finding.set_bytes("text", line.text)?;
-    finding.set_text("reply", reply)?;
-    match first_word(line.text) {
-        Some((word, _)) => finding.set_text("form", form_of(word)),
-        None => Ok(()),
-    }
-}
-
-// Says all of a refusal whose reply has this text.
-fn set_all(
-    here: Here<'_>,
-    finding: &mut Finding,
-    text: &str,
-    refusal: &Refusal,
-) -> Result<(), OutOfMemory> {
-    let head = first_line(text);
-    let words = behind_number(head);
-    set_head(finding, here.line, head)?;
-    set_cause(here, finding, words)?;
-    set_misuse(here, finding, words)?;
-    set_refusal(here, finding, refusal)
-}
-
-// What is told of a refusal whose reply has this text.
-fn found(here: Here<'_>, text: &str, refusal: &Refusal) -> Result<Finding, OutOfMemory> {
-    let mut finding = Finding::new(here.reader.alloc);
-    match set_all(here, &mut finding, text, refusal) {
-        Ok(()) => Ok(finding),
-        Err(stop) => {
-            drop(finding);
-            Err(stop)
+    // Says that a run stopped, if its problem can be printed.
+    fn set_stopped(&mut self) {
+        if is_own(self.reply) {
+            let mut cure = Vec::new(self.alloc());
+            self.reader.put(&mut cure, b"`layout_tell problem ");
+            self.reader.put_count(&mut cure, self.number);
+            let rest = b"` prints its problem and path, for `layout check`";
+            self.reader.put(&mut cure, rest);
+            self.set_cure(&cure);
+            drop(cure);
         }
     }
-}
 
-/// What is told of a line that is refused.
-pub fn refused(
-    here: Here<'_>,
-    reply: &Result<Reply, Refusal>,
-    refusal: &Refusal,
-) -> Result<Finding, OutOfMemory> {
-    let text = text_of(here.reader.alloc, here.session, reply)?;
-    found(here, &text, refusal)
+    // Says that a later suggestion has no priority.
+    fn set_suggested(&mut self) {
+        self.set_cure(SUGGESTED);
+        let line = self.line;
+        let front = cut(line, before_sign(line, b"@")).0;
+        if front.len() < line.len() {
+            self.set_so(front.trim_ascii_end());
+        }
+    }
+
+    // Says what more there is to be said of a wrong use.
+    fn set_misuse(&mut self, word: &str) {
+        match word {
+            "align" => self.set_cure(align_cure(self.line).as_bytes()),
+            "suggested" => self.set_suggested(),
+            "tree" => self.set_shape(),
+            _ => (),
+        }
+    }
+
+    // Says what only a refusal by this cause has to say.
+    fn set_more(&mut self, cause: &str, rest: &'a str) {
+        match cause {
+            "syntax" => self.set_syntax(rest.parse::<usize>().unwrap_or(0)),
+            "unknown" => self.set_unknown(rest),
+            "taken" => self.set_taken(rest),
+            "kind" => self.set_misuse(rest),
+            "conflict" => self.set_conflict(),
+            "overflow" | "spent" => self.set_stopped(),
+            _ => (),
+        }
+    }
+
+    /// Says all that there is to be said of the line. The first line of a refusal is `refused`, a number, and
+    /// the words for the cause.
+    pub fn set_all(&mut self) {
+        let head = head_of(self.reply);
+        if !head.starts_with("refused ") {
+            return self.set_open();
+        }
+        let (_, words) = parted(parted(head.as_bytes(), b' ').1, b' ');
+        let words = std::str::from_utf8(words).unwrap_or("");
+        let (cause, rest) = words.split_once(' ').unwrap_or((words, ""));
+        self.finding.set_count("line", self.number);
+        self.finding.set_text("text", self.line);
+        self.finding.set_text("reply", head.as_bytes());
+        if !self.line.trim_ascii_start().is_empty() {
+            self.finding.set_text("form", form_of(self.line).as_bytes());
+        }
+        self.set_cause(words);
+        self.set_more(cause, rest);
+    }
 }

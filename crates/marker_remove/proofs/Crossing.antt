@@ -20,12 +20,12 @@ use Rattle.problem_core.specs.Rays.{IsRay}
 use Rattle.problem_core.specs.Unfit.{IsUnfitWhat, over_mark}
 use Rattle.problem_core.proofs.Marks.{no-swaps as path_here}
 use Rattle.cert_core.specs.declared.stops.RunStop.TheVariants.{Unfit}
-use Rattle.corner.specs.Views.{HasValueAt}
+use Rattle.corner_ends.specs.Views.{HasValueAt}
 use Rattle.corner_laws.specs.Examples.{over_stay}
 use Rattle.corner_laws.proofs.MarkWritings.Directions.{writing_moves}
 use Rattle.corner_laws.proofs.MarkWritings.Fits.{one_factor, whole_is_kept}
 use Rattle.corner_laws.proofs.Instances.PathExamples.{no}
-use Rattle.marker_remove.specs.Freed.{DoStand, IsFreeStop}
+use Rattle.marker_remove.specs.Freed.{DoStand, HasMarkIn, IsFreeStop}
 use Rattle.marker_remove.specs.Instances.{crossing, first_over, leaning, over_second_stay, through_origin}
 use Rattle.marker_remove.proofs.ZeroSwaps.{next_stands}
 
@@ -388,12 +388,17 @@ freed-same = (
   All-from_recursion (λ k. IsIn (place k) freed) freed ((0, omega arith, refl), ((1, omega arith, refl), ((2, omega arith, refl), tt))),
 )
 
+no-second : HasMarkIn leaning 2 → ⊥
+no-second (inl u) = out-leaning 8 (no 8 5 (inr (omega arith))) (no 8 7 (inr (omega arith))) (no 8 11 (inl (omega arith))) u
+no-second (inr o) = out-leaning 9 (no 9 5 (inr (omega arith))) (no 9 7 (inr (omega arith))) (no 9 11 (inl (omega arith))) o
+
 pub whole_unfit : IsFreeStop crossing leaning 2 (Unfit first_over)
 whole_unfit = (
   record {
     kind = refl;
     none = refl;
-    freed = (second_for_stay, record { row = refl; stay = (1, refl); exchange = exchange; same = same; marks = freed-same });
+    fresh = no-second;
+    freed = (second_for_stay, record { enter = refl; stay = (1, refl); exchange = exchange; same = same; marks = freed-same });
     ordered = refl;
     lawful = path_here crossing freed corner (values (over_mark 1) (over_mark 2) over_second_stay refl refl refl);
   },

@@ -13,15 +13,15 @@ use Rattle.problem_core.specs.declared.stops.Quantity.TheVariants.{Plain, Terms,
 use Rattle.frac_core.specs.declared.memory.Stop.TheVariants.{Refused}
 use Rattle.problem_core.specs.Layout.{Problem, lines}
 use Rattle.problem_core.specs.Corners.{IsCorner, IsExchange, IsIn, NoNegativeValue, SameMarks, Swap, exchanged, marks_of, place}
-use Rattle.problem_core.specs.Unfit.{IsUnfitWhat}
+use Rattle.problem_core.specs.Unfit.{IsUnfitWhat, over_mark}
 use Rattle.problem_core.proofs.Forms.{each-impl}
 use Rattle.cert_core.specs.Paths.{Path}
 use Rattle.corner_laws.proofs.Exchanged.{exchanged_in}
 use Rattle.corner_laws.proofs.LinePlaces.{marks-apart as marks_apart}
 use Rattle.corner_laws.proofs.RunSteps.RunPaths.{contains_in}
 use Rattle.corner_laws.proofs.WrittenValues.{contains_each}
-use Rattle.corner.specs.Views.{IsKeptCorner, in_order, is_mark}
-use Rattle.corner.specs.Changes.{IsUnfitStop}
+use Rattle.corner_ends.specs.Views.{IsKeptCorner, in_order, is_mark}
+use Rattle.corner_ends.specs.Changes.{IsUnfitStop}
 use Rattle.corner_lines.proofs.SameMarks.{same_corner}
 use Rattle.corner_ends.specs.Begins.{HasExchanged}
 use Rattle.corner_ends.proofs.MarkOrders.{unfit_same}
@@ -123,9 +123,9 @@ module _ (at first : List Mark) (s : Swap) (enters : IsIn (place s.enter) at →
 -- ---- the path
 
 -- the path at the corner after the exchange
-pub freed_path : (p : Problem) (at : List Mark) (id : ℕ) (s : Swap) (path : Path) → IsKeptCorner p at → s.enter.row ≡ Held id → IsStayMover p at s.enter s.leave → IsExchange p at s → NoNegativeValue p at → DoStand p at
+pub freed_path : (p : Problem) (at : List Mark) (id : ℕ) (s : Swap) (path : Path) → IsKeptCorner p at → (HasMarkIn at id → ⊥) → s.enter ≡ over_mark id → IsStayMover p at s.enter s.leave → IsExchange p at s → NoNegativeValue p at → DoStand p at
     → path ≡ record { dual = false; corner = in_order p (exchanged s at); swaps = [] } → IsFreedPath p at id path
-freed_path p at id s path kept row stay ex up standing e =
+freed_path p at id s path kept fresh enter stay ex up standing e =
     let same : SameMarks (in_order p (exchanged s at)) (exchanged s at) = ordered_same p (exchanged s at) ex.corner in
     let back : SameMarks (exchanged s at) (in_order p (exchanged s at)) = same_back (in_order p (exchanged s at)) (exchanged s at) same in
     let corner : IsCorner p (in_order p (exchanged s at)) =
@@ -134,7 +134,8 @@ freed_path p at id s path kept row stay ex up standing e =
     (record {
       kind = refl;
       none = refl;
-      freed = (s, record { row = row; stay = (stay.attr, stay.stay); exchange = ex; same = no_value p at s stay.attr kept.whole kept.corner standing stay.stay ex.leaves; marks = back });
+      fresh = fresh;
+      freed = (s, record { enter = enter; stay = (stay.attr, stay.stay); exchange = ex; same = no_value p at s stay.attr kept.whole kept.corner standing stay.stay ex.leaves; marks = back });
       ordered = ordered_again p (exchanged s at) ex.corner;
       lawful = path_here p (in_order p (exchanged s at)) corner (same_up p at (in_order p (exchanged s at)) s stay.attr kept.whole kept.corner standing stay.stay ex back up);
     })

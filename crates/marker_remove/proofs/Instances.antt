@@ -16,13 +16,13 @@ use Rattle.problem_core.specs.Unfit.{IsUnfitWhat}
 use Rattle.problem_core.specs.Changes.Begins.{ChangesNoValue}
 use Rattle.problem_core.specs.Changes.Paths.{IsPath}
 use Rattle.cert_core.specs.declared.stops.RunStop.TheVariants.{Unfit}
-use Rattle.corner.specs.Views.{HasValueAt}
+use Rattle.corner_ends.specs.Views.{HasValueAt}
 use Rattle.corner_laws.specs.Examples.{over_row, over_stay, single}
 use Rattle.corner_laws.proofs.Instances.Examples.{bound-stands, bound_point as stayed_point, no_writing}
 use Rattle.corner_laws.proofs.MarkWritings.Fits.{one_factor, whole_is_kept, difference, difference-at, small-by, attr-holds as five-holds}
 use Rattle.corner_laws.proofs.Instances.PathExamples.{alone-in, no, one-value}
 use Rattle.corner_laws.proofs.RunSteps.RunPaths.{contains_in}
-use Rattle.marker_remove.specs.Freed.{DoStand, IsFreeStop}
+use Rattle.marker_remove.specs.Freed.{DoStand, HasMarkIn, IsFreeStop}
 use Rattle.marker_remove.proofs.Crossing.{nothing, whole, whole_fits, whole_stands, whole_unfit, whole_values}
 use Rattle.marker_remove.proofs.ZeroSwaps.{next_stands}
 use Rattle.marker_remove.specs.Instances.{SomeRowsCannotLeave, row_for_stay, standing, unfit_at, x_over}
@@ -125,12 +125,17 @@ x_unfit = (
   no_writing (standing 4398046511104) (over_row ∷ []) (λ x. x (attr_column 1)) bound_point (stands over_row) refl refl,
 )
 
+pub no_mark : HasMarkIn (over_stay ∷ []) 1 → ⊥
+no_mark (inl u) = alone-in over_stay 4 (no 4 7 (inl (omega arith))) u
+no_mark (inr o) = alone-in over_stay 5 (no 5 7 (inl (omega arith))) o
+
 unfit : IsFreeStop (standing 4398046511104) (over_stay ∷ []) 1 (Unfit x_over)
 unfit = (
   record {
     kind = refl;
     none = refl;
-    freed = (record { enter = over_row; leave = over_stay }, record { row = refl; stay = (1, refl); exchange = row_exchange; same = row_same; marks = one-same over_row });
+    fresh = no_mark;
+    freed = (record { enter = over_row; leave = over_stay }, record { enter = refl; stay = (1, refl); exchange = row_exchange; same = row_same; marks = one-same over_row });
     ordered = refl;
     lawful = path_here (standing 4398046511104) (over_row ∷ []) row_corner (values over_row (record { le = tt }));
   },
@@ -190,7 +195,7 @@ other_row : IsFreeStop (standing 4398046511104) (over_stay ∷ []) 2 (Unfit x_ov
 other_row (path, bad) =
     let s = path.freed.0 in
     let freed = path.freed.1 in
-    second-place s.enter freed.row (sym (in-one (place s.enter) over_row (contains_in (exchanged s (over_stay ∷ [])) (over_row ∷ []) (place s.enter) freed.marks.0 (enter_in s (over_stay ∷ []) freed.exchange.leaves))))
+    second-place s.enter (ap (λ (m : Mark). m.row) freed.enter) (sym (in-one (place s.enter) over_row (contains_in (exchanged s (over_stay ∷ [])) (over_row ∷ []) (place s.enter) freed.marks.0 (enter_in s (over_stay ∷ []) freed.exchange.leaves))))
 
 -- where the stay is at 0 and x at 2^42, the exchange takes x to 0
 moved : ChangesNoValue (single 4398046511104) (over_stay ∷ []) row_for_stay → ⊥

@@ -3,3 +3,4 @@ pub mod ZeroSwaps
 pub mod FreedPaths
 pub mod Crossing
 pub mod Instances
+pub mod Beginnings

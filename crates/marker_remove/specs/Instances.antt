@@ -1,20 +1,22 @@
 -- Where a row that leaves has a stop, and where it has none: the row `x >= k` where x stands at k, and one of
--- three rows that lean on each other.
-use Rattle.std.specs.Prelude.{ℕ, List, [], ◌∷◌, ℤ, pos, negsuc, false}
+-- three rows that lean on each other. And where the path of a removal begins.
+use Rattle.std.specs.Prelude.{ℕ, List, [], ◌∷◌, ◌++◌, ℤ, pos, negsuc, false}
 use Rattle.frac_core.specs.declared.frac.TheConstants.{PART_BOUND}
 use Rattle.problem_core.specs.declared.limits.TheConstants.{REQUIRED}
 use Rattle.problem_core.specs.declared.parts.Mark.{Mark}
 use Rattle.problem_core.specs.declared.parts.Rel.TheVariants.{Ge}
 use Rattle.problem_core.specs.declared.parts.RowName.TheVariants.{Stay as StayOf}
-use Rattle.problem_core.specs.declared.parts.Side.TheVariants.{Over}
+use Rattle.problem_core.specs.declared.parts.Side.TheVariants.{Under, Over}
+use Rattle.problem_core.specs.declared.parts.Stay.{Stay}
 use Rattle.problem_core.specs.declared.stops.What.TheVariants.{Attr, Mark as MarkOf}
 use Rattle.problem_core.specs.declared.stops.Quantity.{Quantity}
 use Rattle.problem_core.specs.declared.stops.Quantity.TheVariants.{Plain}
 use Rattle.problem_core.specs.Kept.{IsWhole}
 use Rattle.problem_core.specs.Layout.{Problem, Row}
 use Rattle.problem_core.specs.Corners.{NoNegativeValue, Swap}
-use Rattle.problem_core.specs.Changes.Begins.{ChangesNoValue}
+use Rattle.problem_core.specs.Changes.Begins.{ChangesNoValue, ComesFrom}
 use Rattle.problem_core.specs.Unfit.{IsUnfitWhat, over_mark}
+use Rattle.problem_core.specs.Window.{required_row, structural_rows, window_width}
 use Rattle.cert_core.specs.declared.stops.UnfitPath.{UnfitPath}
 use Rattle.cert_core.specs.declared.stops.RunStop.TheVariants.{Unfit}
 use Rattle.corner_laws.specs.Examples.{at_least, over_row, over_stay, single}
@@ -96,3 +98,47 @@ pub record SomeRowsCannotLeave : Type 0 where
   pub whole_stands : DoStand crossing leaning
   pub whole_fits : IsUnfitWhat crossing leaning (MarkOf (over_mark 1)) → ⊥
   pub whole_unfit : IsFreeStop crossing leaning 2 (Unfit first_over)
+
+-- ---- where the path of a removal begins
+
+-- the stay of an attribute at a whole number
+abbrev pub stay_at : ℕ → ℕ → Stay
+stay_at attr value = record { attr = attr; target = record { num = pos value; den = 1 } }
+
+-- the under mark of an attribute's stay
+abbrev pub under_stay_of : ℕ → Mark
+under_stay_of attr = record { row = StayOf attr; side = Under }
+
+-- the over mark of an attribute's stay
+abbrev pub over_stay_of : ℕ → Mark
+over_stay_of attr = record { row = StayOf attr; side = Over }
+
+-- a session after its one line `constrain k window.width >= 5`, with the stays at the values
+abbrev pub widened : Problem
+widened = record {
+  rows = structural_rows
+      ++ required_row 5 window_width Ge (record { num = pos 5; den = 1 }) ∷ [];
+  stays = stay_at 1 0 ∷ stay_at 2 0 ∷ stay_at 3 5 ∷ stay_at 4 0 ∷ [];
+}
+
+-- the corner that this session keeps leans on the line's row
+abbrev pub on_line : List Mark
+on_line = over_mark 3 ∷ over_mark 4 ∷ under_stay_of 1 ∷ under_stay_of 2 ∷ over_stay_of 3 ∷ []
+
+-- what `remove k` begins with
+abbrev pub off_line : List Mark
+off_line = over_mark 3 ∷ over_mark 4 ∷ under_stay_of 1 ∷ under_stay_of 2 ∷ []
+
+-- the over marks of three stays
+abbrev pub others : List Mark
+others = over_stay_of 2 ∷ over_stay_of 3 ∷ over_stay_of 4 ∷ []
+
+-- those and the over mark of row 2
+abbrev pub on_row : List Mark
+on_row = over_mark 2 ∷ others
+
+-- a stay's mark gives way to that of the row that leaves, and no mark of a row that stays does: whatever the
+-- problem is, row 4 doesn't leave the mark of row 2 out
+pub record SomeRemovalsBegin : Type 0 where
+  pub line : ComesFrom widened on_line (5 ∷ []) (5 ∷ []) off_line
+  pub not_for_row : (p : Problem) → ComesFrom p on_row (4 ∷ []) (4 ∷ []) others → ⊥

@@ -3,16 +3,16 @@ ghost use Rattle.std.specs.Prelude.{◌≡◌, ◌<◌, [], length, true, false,
 ghost use Rattle.std.specs.Prelude.{IfSome, IfNone};
 ghost use Rattle.problem_core.specs.Corners.{IsExchange, NoNegativeValue, exchanged};
 ghost use Rattle.frac_core.specs.declared.memory.Stop.TheVariants.{Refused};
-ghost use Rattle.corner.specs.Changes.{IsUnfitStop};
-ghost use Rattle.corner.specs.Views.{in_order};
+ghost use Rattle.corner_ends.specs.Changes.{IsUnfitStop};
+ghost use Rattle.corner_ends.specs.Views.{in_order};
 ghost use Rattle.problem_core.specs.declared.parts.RowName.TheVariants.{Held};
+ghost use Rattle.problem_core.specs.Unfit.{over_mark};
 ghost use Rattle.marker_remove.specs.Freed.{DoStand, HasMarkIn, HasSameValues, IsFreeStop, IsFreed};
 ghost use Rattle.marker_remove.specs.Freed.{IsStayMover};
 
 use crate::leaving::leaving;
 use cert_core::{Path, RunStop, Swap, UnfitPath};
-use corner::Corner;
-use corner_ends::first_marks;
+use corner_ends::{Corner, first_marks};
 use frac_core::{OutOfMemory, Stop};
 use problem_core::{Mark, Quantity, RowName, Side};
 use std::alloc::Global;
@@ -55,7 +55,8 @@ fn freed_path(alloc: Global, c: &Corner, swap: Swap) -> Result<Path, OutOfMemory
 
 // The stop where a quantity does not fit at the corner after the exchange.
 fn unfit(alloc: Global, c: &Corner, id: u32, swap: Swap, quantity: Quantity) -> RunStop
-    requires row { swap.enter.row ≡ Held id }
+    requires fresh { HasMarkIn c.now.marks id → ⊥ }
+    requires enter { swap.enter ≡ over_mark id }
     requires stay { IsStayMover c.now.problem c.now.marks swap.enter swap.leave }
     requires exchange { IsExchange c.now.problem c.now.marks swap }
     requires values { NoNegativeValue c.now.problem c.now.marks }

@@ -3,10 +3,10 @@ ghost use Rattle.std.specs.Prelude.{◌≡◌, ℕ, IfSome, IfNone};
 ghost use Rattle.problem_core.specs.declared.parts.Mark as mark_type;
 ghost use Rattle.problem_core.specs.declared.parts.RowName.TheVariants.{Stay as StayOf};
 ghost use Rattle.problem_core.specs.declared.stops.What.TheVariants.{Mark as MarkOf};
-ghost use Rattle.corner.specs.Views.{IsOutside};
+ghost use Rattle.corner_ends.specs.Views.{IsOutside};
 ghost use Rattle.marker_remove.specs.Freed.{IsStayMover};
 
-use corner::Corner;
+use corner_ends::Corner;
 use problem_core::{Mark, RowName, What};
 
 // The mark of a stay.

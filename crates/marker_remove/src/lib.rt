@@ -18,7 +18,7 @@
 //! degenerate pivot. The Cassowary solvers call it the row's marker.
 //!
 //! To read: `leaving` finds the stay's mark, and `freeing` exchanges it. `laws` has rows that cannot
-//! leave, and what is no such stop.
+//! leave, what is no such stop, and where the path of a removal begins.
 #![tactic(auto)]
 
 mod freeing;
@@ -26,4 +26,4 @@ mod laws;
 mod leaving;
 
 pub use freeing::{free_row, is_free};
-pub use laws::some_rows_cannot_leave;
+pub use laws::{some_removals_begin, some_rows_cannot_leave};

@@ -16,7 +16,7 @@ use Rattle.problem_core.proofs.Forms.{each-impl}
 use Rattle.problem_core.proofs.Wholes.{whole-IsProblem}
 use Rattle.corner_laws.proofs.RunSteps.ColumnSigns.{negative_by_reduced, pick, mark_line, required_by_reduced}
 use Rattle.corner_laws.specs.RunLaws.{AreReduced}
-use Rattle.corner.specs.Views.{AreCandidates, IsKeptCorner, IsLevelOf, IsMarkOf, IsNamed, IsOutside, IsReducedAt}
+use Rattle.corner_ends.specs.Views.{AreCandidates, IsKeptCorner, IsLevelOf, IsMarkOf, IsNamed, IsOutside, IsReducedAt}
 use Rattle.corner_table.proofs.Readings.ReadFacts.{mark_named}
 use Rattle.primal_run.specs.Entering.{HasNoRequired, IsChoice, IsRequired, MayEnter}
 use Rattle.primal_run.specs.declared.entering.Choice.{Choice}

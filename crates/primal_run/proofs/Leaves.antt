@@ -15,7 +15,7 @@ use Rattle.corner_laws.specs.Runs.{FallsFirst, IsFirstToLeave, Writes, Writing}
 use Rattle.corner_laws.proofs.RunSteps.ColumnSigns.{some_mark_falls}
 use Rattle.corner_laws.proofs.MarkWritings.Directions.{writing_moves}
 use Rattle.corner_laws.proofs.MarkWritings.LowestForms.{column_has_writing}
-use Rattle.corner.specs.Views.{AreMovers, CornerView, IsKeptCorner, IsOutside, MovesWith}
+use Rattle.corner_ends.specs.Views.{AreMovers, CornerView, IsKeptCorner, IsOutside, MovesWith}
 use Rattle.primal_run.specs.declared.ties.Ratio.{Ratio}
 use Rattle.primal_run.specs.Entering.{MayEnter}
 use Rattle.primal_run.specs.Leaving.{IsFirstOf, IsRatioAt, NeverFalls}

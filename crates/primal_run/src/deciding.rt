@@ -7,14 +7,13 @@ ghost use Rattle.problem_core.specs.Corners as corners;
 ghost use Rattle.problem_core.specs.Corners.{IsIn};
 ghost use Rattle.problem_core.specs.declared.parts.Mark as mark_type;
 ghost use Rattle.problem_core.specs.declared.parts.Side as side_type;
-ghost use Rattle.corner.specs.Views.{IsMarkOf, IsNamed};
+ghost use Rattle.corner_ends.specs.Views.{IsMarkOf, IsNamed};
 ghost use Rattle.primal_run.specs.Deciding.{FromTies, HasBegun, IsDecider, IsLate, IsNoLater, IsOfRow};
 ghost use Rattle.primal_run.specs.Deciding.{IsSeen, IsTie, line_key, mark_key, tie_key};
 ghost use Rattle.primal_run.specs.Leaving.{IsEarlier, IsRatioAt, WinsTie};
 
 use crate::ties::{Ratio, count_order};
-use corner::Corner;
-use corner_ends::Trail;
+use corner_ends::{Corner, Trail};
 use frac_core::cmp_wide;
 use problem_core::{Level, Mark, RowName, Side};
 use std::cmp::Ordering;

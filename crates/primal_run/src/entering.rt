@@ -2,13 +2,12 @@
 ghost use Rattle.std.specs.Prelude.{◌≡◌, ◌⊎◌, ◌<◌, ◌-◌, ◌<ℤ◌, [], pos, length, true};
 ghost use Rattle.std.specs.Prelude.{false, IfSome, IfNone, Some, None};
 ghost use Rattle.problem_core.specs.Corners.{HasNegativeColumn};
-ghost use Rattle.corner.specs.Views.{IsFoundOf, IsFrontOf, IsLevelOf, IsMarkOf, IsNamed};
-ghost use Rattle.corner.specs.Changes.{HasNoNegative};
+ghost use Rattle.corner_ends.specs.Views.{IsFoundOf, IsFrontOf, IsLevelOf, IsMarkOf, IsNamed};
+ghost use Rattle.corner_ends.specs.Changes.{HasNoNegative};
 ghost use Rattle.corner_ends.specs.Columns.{IsNegative};
 ghost use Rattle.primal_run.specs.Entering.{IsChoice};
 
-use corner::{Corner, Front};
-use corner_ends::is_below;
+use corner_ends::{Corner, Front, is_below};
 use problem_core::{Level, Mark, RowName, Side};
 
 /// An outside mark, and the level at which its column is negative, with its reduced cost there.

@@ -5,7 +5,7 @@ ghost use Rattle.problem_core.specs.Corners.{IsIn};
 ghost use Rattle.problem_core.specs.declared.parts.Mark.{Mark as MarkOfLine};
 ghost use Rattle.problem_core.specs.declared.stops.What.TheVariants.{Mark as MarkOf};
 ghost use Rattle.corner_laws.specs.Runs.{IsFirstToLeave};
-ghost use Rattle.corner.specs.Views.{IsOutside, MovesWith};
+ghost use Rattle.corner_ends.specs.Views.{IsOutside, MovesWith};
 ghost use Rattle.corner_ends.specs.Trails.{IsTrailOf};
 ghost use Rattle.primal_run.specs.Deciding.{FromTies};
 ghost use Rattle.primal_run.specs.Entering.{MayEnter};
@@ -13,8 +13,7 @@ ghost use Rattle.primal_run.specs.Leaving.{IsNextFirst, IsRatioOrNone};
 
 use crate::deciding::earlier;
 use crate::ties::{Ratio, ratio_of};
-use corner::Corner;
-use corner_ends::Trail;
+use corner_ends::{Corner, Trail};
 use problem_core::{Mark, What};
 
 // The ratio of what leaves, where one more is looked at that moves with the entering mark.

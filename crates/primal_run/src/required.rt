@@ -6,12 +6,11 @@ ghost use Rattle.problem_core.specs.declared.limits.TheConstants.{REQUIRED};
 ghost use Rattle.problem_core.specs.declared.parts.Level.TheVariants.{Priority};
 ghost use Rattle.problem_core.specs.declared.parts.RowName.{RowName as RowNameOf};
 ghost use Rattle.problem_core.specs.Changes.Paths.{NoNegativeRequired};
-ghost use Rattle.corner.specs.Views.{IsMarkOf, IsNamed, IsReducedAt};
+ghost use Rattle.corner_ends.specs.Views.{IsMarkOf, IsNamed, IsReducedAt};
 ghost use Rattle.primal_run.specs.Entering.{HasNoRequired, IsChoice, IsRequired};
 
 use crate::entering::{Choice, is_weaker, mark_at};
-use corner::Corner;
-use corner_ends::{is_below, required_level};
+use corner_ends::{Corner, is_below, required_level};
 use problem_core::{Level, Mark, REQUIRED, RowName, Side};
 
 // Whether it is the level of the required rows.

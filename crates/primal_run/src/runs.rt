@@ -6,8 +6,7 @@ ghost use Rattle.primal_run.specs.Entering.{MayEnter};
 
 use crate::leaving::leaving;
 use cert_core::{RunStop, Swap};
-use corner::Corner;
-use corner_ends::Trail;
+use corner_ends::{Corner, Trail};
 use frac_core::Stop;
 use problem_core::Mark;
 

@@ -13,8 +13,7 @@ use crate::entering::{Choice, pick};
 use crate::required::{required_of, required_pick};
 use crate::runs::exchange;
 use cert_core::RunStop;
-use corner::Corner;
-use corner_ends::{Trail, conflict_stop, is_costly};
+use corner_ends::{Corner, Trail, conflict_stop, is_costly};
 use problem_core::Mark;
 use std::alloc::Global;
 

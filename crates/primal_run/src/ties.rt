@@ -4,12 +4,12 @@ ghost use Rattle.problem_core.specs.Corners as corners;
 ghost use Rattle.problem_core.specs.Corners.{IsIn};
 ghost use Rattle.corner_laws.specs.Runs.{Writes, Writing, count_at};
 ghost use Rattle.problem_core.specs.declared.stops.What.TheVariants.{Mark as MarkOf};
-ghost use Rattle.corner.specs.Views.{IsMarkOf, IsOutside, IsScaleOf};
+ghost use Rattle.corner_ends.specs.Views.{IsMarkOf, IsOutside, IsScaleOf};
 ghost use Rattle.primal_run.specs.Leaving as leaving;
 ghost use Rattle.primal_run.specs.Leaving.{ForWritings, IsRatioAt, NeverFalls};
 
-use corner::Corner;
-use corner_ends::{coefficient_of, is_below, product};
+use corner_ends::{Corner, coefficient_of, is_below};
+use frac_core::product;
 use problem_core::{Mark, What};
 use std::cmp::Ordering;
 

@@ -12,3 +12,4 @@ pub mod Lines
 pub mod SortedNumbers
 pub mod StayNumbers
 pub mod Marks
+pub mod RowPlaces

@@ -4,11 +4,15 @@ use Rattle.std.proofs.lemmas.Bool.{cases_Bool}
 use Rattle.std.specs.List.{AllByRecursion as Each}
 use Rattle.problem_core.proofs.Forms.{each-impl}
 use Rattle.problem_core.specs.Certificates.{Multipliers}
-use Rattle.problem_core.specs.Changes.Begins.{AreExchanges, ChangeNoValue, ChangesNoValue, is_one_of, without_marks}
+use Rattle.problem_core.specs.Changes.Begins.{AreExchanges, ChangeNoValue, ChangesNoValue, IsFreeing, is_one_of, without_marks}
 use Rattle.problem_core.specs.Changes.Paths.{IsPath, last_marks}
-use Rattle.problem_core.specs.Corners.{AreMultipliersAt, ArePairwiseDifferent, IsCorner, IsExchange, IsIn, NoNegativeValue, SameMarks, Swap, exchanged, place}
+use Rattle.problem_core.specs.Corners.{AreMultipliersAt, ArePairwiseDifferent, IsCorner, IsExchange, IsIn, NoNegativeValue, SameMarks, Swap, exchanged, place, place_of}
 use Rattle.problem_core.specs.Layout.{Problem}
 use Rattle.problem_core.specs.declared.parts.Mark.{Mark}
+use Rattle.problem_core.specs.declared.parts.RowName.{RowName}
+use Rattle.problem_core.specs.declared.parts.RowName.TheVariants.{Held, Stay as StayOf}
+use Rattle.problem_core.specs.declared.parts.Side.{Side}
+use Rattle.problem_core.specs.declared.parts.Side.TheVariants.{Under, Over}
 
 pub entered-in : (s : Swap) (at : List Mark) → IsIn (place s.leave) at → IsIn (place s.enter) (exchanged s at)
 entered-in s [] (k, within, is) = absurd (omega (arith, within))
@@ -65,3 +69,17 @@ exchanges-more p at (t ∷ swaps) s h ex = (h.0, exchanges-more p (exchanged t a
 pub changes-more : (p : Problem) (at : List Mark) (swaps : List Swap) (s : Swap) → ChangeNoValue p at swaps → ChangesNoValue p (last_marks at swaps) s → ChangeNoValue p at (swaps ++ s ∷ [])
 changes-more p at [] s h same = (same, tt)
 changes-more p at (t ∷ swaps) s h same = (h.0, changes-more p (exchanged t at) swaps s h.1 same)
+
+-- ---- the marks of rows stay where those of stays leave
+
+places-apart : (id attr : ℕ) (a b : Side) → place_of (Held id) a ≡ place_of (StayOf attr) b → ⊥
+places-apart id attr Under Under e = absurd (omega (arith, e))
+places-apart id attr Under Over e = absurd (omega (arith, e))
+places-apart id attr Over Under e = absurd (omega (arith, e))
+places-apart id attr Over Over e = absurd (omega (arith, e))
+
+pub rows-stay : (kept at : List Mark) (leaving : List ℕ) (frees : List Swap) (id : ℕ) (side : Side) → Each (IsFreeing kept leaving) frees → IsIn (place_of (Held id) side) at → IsIn (place_of (Held id) side) (last_marks at frees)
+rows-stay kept at leaving [] id side h i = i
+rows-stay kept at leaving (s ∷ frees) id side h i =
+    rows-stay kept (exchanged s at) leaving frees id side h.1
+    (kept-in s at (place_of (Held id) side) i (λ e. places-apart id h.0.stay.0 side s.leave.side (e ∙ ap (λ (r : RowName). place_of r s.leave.side) h.0.stay.1)))

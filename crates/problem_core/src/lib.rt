@@ -56,6 +56,6 @@ pub use limits::{
 pub use numbers::numbers_of;
 pub use parts::{Level, Mark, Rel, RowName, Side, Stay, Term};
 pub use problem::Problem;
-pub use row::Row;
+pub use row::{Row, row_of, row_place};
 pub use stops::{Quantity, TableStop, What};
 pub use values::Values;

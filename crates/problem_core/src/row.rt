@@ -1,6 +1,9 @@
 // Rows: a relation of a sum of attributes and a constant, with a rank and a weight.
-ghost use Rattle.std.specs.Prelude.{◌≡◌, ◌<ℤ◌, pos, nat_abs, IfOk};
+ghost use Rattle.std.specs.Prelude.{◌≡◌, ◌≢◌, ◌<◌, ◌<ℤ◌, pos, nat_abs, length, All, AllPairs, Any};
+ghost use Rattle.std.specs.Prelude.{IfOk, IfSome, IfNone};
+ghost use Rattle.std.specs.List.{HoldsAt};
 ghost use Rattle.problem_core.specs.Kept.{IsRow};
+ghost use Rattle.problem_core.specs.Unfit.{at_constant};
 
 use crate::parts::{Rel, Term};
 use frac_core::{Frac, OutOfMemory};
@@ -81,6 +84,24 @@ impl Row {
         })
     }
 
+    /// The row with another constant.
+    pub fn with_constant(&self, alloc: Global, constant: Frac) -> Result<Row, OutOfMemory>
+        ensures { IfOk result (λ r. r ≡ at_constant constant self.now) }
+    {
+        self.show_row(); // for the proof: what a row keeps
+        let _den = constant.den(); // for the proof: what a fraction keeps
+        Row::of(
+            alloc,
+            self.id(),
+            self.rank(),
+            self.weight(),
+            self.rel(),
+            self.scale(),
+            constant,
+            self.terms(),
+        )
+    }
+
     /// The number, from 1 to [`NUMBER_LIMIT`](crate::NUMBER_LIMIT).
     pub fn id(&self) -> u32
         ensures { result ≡ self.now.id }
@@ -136,4 +157,24 @@ impl Row {
     {
         let _ = &self.id; // for the proof: what a row keeps
     }
+}
+
+/// The place of the row of this number, found by halving.
+pub fn row_place(rows: &[Row], id: u32) -> Option<usize>
+    requires { AllPairs (λ r s. r.id < s.id) rows.now }
+    ensures within { IfSome result (λ i. i < length rows.now) }
+    ensures found { IfSome result (HoldsAt (λ r. r.id ≡ id) rows.now) }
+    ensures absent { IfNone result (All (λ r. r.id ≢ id) rows.now) }
+{
+    rows.binary_search_by_key(&id, |row| row.id()).ok()
+}
+
+/// The row of this number, found by halving.
+pub fn row_of(rows: &[Row], id: u32) -> Option<&Row>
+    requires { AllPairs (λ r s. r.id < s.id) rows.now }
+    ensures some { IfSome result (λ held. (held.now.id ≡ id) × Any (λ r. r ≡ held.now) rows.now) }
+    ensures none { IfNone result (Any (λ r. r.id ≡ id) rows.now → ⊥) }
+{
+    let place = row_place(rows, id)?;
+    Some(&rows[place])
 }

@@ -8,7 +8,7 @@ use Rattle.std.proofs.lemmas.List.Elements.{All-weaker}
 use Rattle.std.proofs.lemmas.Result.{IfErr-weaker}
 use Rattle.view_tree.specs.Views.{ViewTree}
 use Rattle.problem_core.specs.Layout.{Row}
-use Rattle.version_list.specs.declared.TheConstants.{VERSION_LIMIT}
+use Rattle.version_lists.specs.declared.versions.TheConstants.{VERSION_LIMIT}
 use Rattle.compile_parts.specs.Meaning.{MetricList}
 use Rattle.layout_solver.specs.Layouts.{IsKeptLayout, Layout}
 use Rattle.diagnosis.specs.Diagnoses.{AreFindings, findings_of}

@@ -2,5 +2,6 @@
 pub mod Additions
 pub mod Moves
 pub mod Reached
-pub mod Solved
+pub mod Posed
+pub mod Requests
 pub mod Wholes

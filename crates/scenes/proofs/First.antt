@@ -13,7 +13,7 @@ use Rattle.layout_solver.specs.Layouts.{Layout, Solution, AreBest, solution_of, 
 use Rattle.held_items.specs.Items.{OfWindow}
 use Rattle.held_items.specs.declared.row_numbers.TheConstants.{FIRST_FREE_ROW}
 use Rattle.script_text.specs.declared.words.Direction.TheVariants.{Ltr}
-use Rattle.version_list.specs.Versions.{Versions}
+use Rattle.version_lists.specs.Versions.{Versions}
 use Rattle.held_items.specs.declared.item.Item as declared
 use Rattle.held_items.specs.declared.item.Item.TheVariants as kind
 use Rattle.scenes.specs.declared.scene.past.Past.{Past}

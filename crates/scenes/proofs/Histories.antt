@@ -4,8 +4,8 @@ use Rattle.std.proofs.Common.{◌≡◌, ◌∙◌, ℕ, zero, suc, ◌+◌, ◌
 use Rattle.std.proofs.lemmas.List.Elements.{All-cons, All-head, All-same, All-tail, All-take}
 use Rattle.view_tree.specs.Views.{ViewTree}
 use Rattle.compile_parts.specs.Meaning.{MetricList}
-use Rattle.version_list.specs.Versions.{Versions}
-use Rattle.version_list.specs.declared.TheConstants.{VERSION_LIMIT}
+use Rattle.version_lists.specs.Versions.{Versions}
+use Rattle.version_lists.specs.declared.versions.TheConstants.{VERSION_LIMIT}
 use Rattle.layout_solver.specs.Layouts.{Layout, Solution, solution_of}
 use Rattle.held_items.specs.declared.item.Item as declared
 use Rattle.scenes.specs.declared.scene.past.Past.{Past}
@@ -14,7 +14,6 @@ use Rattle.scenes.specs.Kept.{AreAlike, IsKept, IsKeptHistory, earlier_at, histo
 use Rattle.held_items.specs.Kept.{items_of}
 use Rattle.scenes.specs.Scene.{Scene, with_earlier}
 use Rattle.held_items.specs.declared.limits.TheConstants.{EARLIER}
-use Rattle.held_items.proofs.Marks.{refused-items}
 use Rattle.scenes.specs.declared.scene.past.Setting.{Setting}
 
 -- ---- one solution, one scene
@@ -126,12 +125,6 @@ module _ (tree : ViewTree) (metrics : MetricList) (old new : Versions declared.I
   unchanged-AreAlike alike =
       subst (λ (l : Layout). AreAlike undo new.before l.earlier pasts) (sym same_layout)
       (subst (λ (items : Versions declared.Item). AreAlike undo items.before layout.earlier pasts) (sym same_items) alike)
-
-pub refused-same : (tree : ViewTree) (metrics : MetricList) (old new : Versions declared.Item) (setting : Setting) (layout after : Layout) (pasts : List Past) (undo : ℕ) (before : List (List declared.Item))
-    → before ≡ old.items ∷ old.before → before ≡ new.items ∷ new.before → after ≡ layout
-    → history_at tree metrics new setting after pasts undo ≡ history_at tree metrics old setting layout pasts undo
-refused-same tree metrics old new setting layout after pasts undo before are_old are_new same_layout =
-    unchanged tree metrics old new setting layout after pasts undo (refused-items old new before are_old are_new) same_layout
 
 -- ---- the latest earlier scene is the scene
 

@@ -1,27 +1,16 @@
 -- A scene with the stays of a view first: the rows and the values are as before.
-use Rattle.std.proofs.Common.{◌≡◌, ◌≢◌, ◌∙◌, ℕ, ◌+◌, ◌*◌, ◌^◌, ◌<◌, Bool, true, false, cond, bytes_eq, List, [], ◌∷◌, map, length, get_or, Some, refl, sym, ap, ap₂, subst, arith, append-nil, All, AllPairs, Contains, IsPermutation}
-use Rattle.std.specs.List.{AllByRecursion as Each}
+use Rattle.std.proofs.Common.{◌≡◌, ◌≢◌, ◌∙◌, ℕ, ◌+◌, ◌*◌, ◌^◌, ◌<◌, Bool, true, false, cond, bytes_eq, List, [], ◌∷◌, map, length, get_or, Some, sym, ap, subst, arith, All, AllPairs, IsPermutation}
 use Rattle.std.proofs.lemmas.Option.{none-some, same_Some}
-use Rattle.std.proofs.lemmas.List.Elements.{All-head, All-map, All-tail, Contains-get_or, recursion_from_All}
-use Rattle.std.proofs.lemmas.List.Sorted.{Contains-permutation, IsPermutation-map, IsPermutation-sym, IsPermutation-trans}
+use Rattle.std.proofs.lemmas.List.Elements.{All-head, All-tail, Contains-get_or}
+use Rattle.std.proofs.lemmas.List.Sorted.{Contains-permutation, IsPermutation-map, IsPermutation-trans}
 use Rattle.frac_core.specs.Fraction.{Fraction}
 use Rattle.problem_core.specs.declared.parts.Stay.{Stay}
-use Rattle.problem_core.specs.Gaps.{value_of}
 use Rattle.problem_core.specs.Layout.{HasStay, Problem}
-use Rattle.problem_core.specs.Kept.{IsWhole}
-use Rattle.cert_core.specs.Paths.{Path}
-use Rattle.cert_core.specs.declared.stops.RunStop.{RunStop}
 use Rattle.view_tree.specs.Views.{IsTree, LiveView, ViewTree, view_named}
 use Rattle.compile_parts.specs.Meaning.{MetricList}
 use Rattle.stay_orders.specs.Orders.{with_front}
-use Rattle.stay_orders.proofs.Wholes.{whole_there}
-use Rattle.layout_solver.specs.Begins.{IsStopFrom}
-use Rattle.layout_solver.specs.Keeping.{AreAtStays, with_kept as with_first}
-use Rattle.layout_solver.specs.Layouts.{AreBest, IsKeptLayout, Layout, stays_at}
-use Rattle.layout_solver.specs.Removals.{stood}
-use Rattle.layout_solver.proofs.ApartValues.{stay_valued, value_in, value_is}
-use Rattle.layout_solver.proofs.KeptOrders.{front_at}
-use Rattle.problem_core.proofs.StayNumbers.{numbers_held}
+use Rattle.layout_solver.specs.Keeping.{with_kept as with_first}
+use Rattle.layout_solver.specs.Layouts.{IsKeptLayout, Layout, stays_at}
 use Rattle.layout_solver.proofs.FrontStays.{front_permutes}
 use Rattle.held_items.specs.Attributes.{all_attributes, view_attributes}
 use Rattle.held_items.specs.Items.{Item, AreRows}
@@ -30,20 +19,15 @@ use Rattle.held_items.proofs.HeldRows.FormTerms.{found-among}
 use Rattle.held_items.proofs.HeldRows.Ranks.{HasRank}
 use Rattle.scenes.specs.Drafts.{IsThere}
 use Rattle.scenes.specs.Kept.{IsKept, scene_at}
-use Rattle.scenes.specs.Scene.{moved, values_by_number, with_kept}
-use Rattle.scenes.specs.Steps.{IsProblemOf, IsSolved, LeadsTo, RunStopsAt, from_corner}
+use Rattle.scenes.specs.Scene.{moved, with_kept}
+use Rattle.scenes.specs.Steps.{IsProblemOf}
 use Rattle.scenes.specs.declared.scene.past.Setting.{Setting}
-use Rattle.scenes.proofs.Engines.Solved.{kept-start, moves, solved-at, stops-at}
-use Rattle.scenes.proofs.Engines.Wholes.{IsSettled, renewed-whole}
-use Rattle.scenes.proofs.Removals.LeavingScenes.{moved-attrs}
+use Rattle.scenes.proofs.Engines.Posed.{moves}
+use Rattle.scenes.proofs.Engines.Requests.{moved-attrs}
 use Rattle.scenes.proofs.Views.Places.{stay-of}
 
 abbrev pair : ℕ → Fraction → ℕ × Fraction
 pair n f = (n, f)
-
--- the problem with some stays first is one
-pub kept-whole : (l : Layout) (attrs : List ℕ) → IsSettled l.problem l.values → IsWhole (with_first l attrs)
-kept-whole l attrs h = whole_there attrs (stood l) (renewed-whole l.problem l.values l.problem.rows h h.whole.rows refl)
 
 -- the attributes of a view differ
 pub four-apart : (id : ℕ) → AllPairs (λ a b. a ≢ b) (view_attributes id)
@@ -84,24 +68,12 @@ module _ (tree : ViewTree) (ms : MetricList) (held : List Item) (setting : Setti
     ap (λ (q : Problem). q.stays) e ∙ sym order-is,
   )
 
-  pub keep-stops : (budget : ℕ) (s : RunStop) → IsStopFrom (from_corner l []) (with_first l (view_attributes id)) budget s → RunStopsAt (scene_at tree ms held setting l) (with_kept (scene_at tree ms held setting l) id) budget s
-  keep-stops budget s stops =
-      stops-at (scene_at tree ms held setting l) (with_kept (scene_at tree ms held setting l) id) l.problem.rows (from_corner l []) (with_front (view_attributes id) (stays_at l.values)) budget s
-      kept.are_rows order-is (kept-start tree ms held setting l kept sound l.problem.rows [] (sym (append-nil l.problem.rows))) stops
-
   module _ (new : Layout) (done : new.problem ≡ with_first l (view_attributes id)) where
     new-rows : new.problem.rows ≡ l.problem.rows
     new-rows = ap (λ (p : Problem). p.rows) done
 
     new-stays : new.problem.stays ≡ with_front (view_attributes id) (moved l.problem.stays l.values)
     new-stays = ap (λ (p : Problem). p.stays) done ∙ sym order-is
-
-    pub keep-solved : (budget : ℕ) → AreBest new.problem new.values → LeadsTo (from_corner l []) new budget
-        → (path : Path) × IsSolved (scene_at tree ms held setting l) (with_kept (scene_at tree ms held setting l) id) budget path (scene_at tree ms held setting new)
-    keep-solved budget best runs =
-        solved-at (scene_at tree ms held setting l) (with_kept (scene_at tree ms held setting l) id) held setting.next_row new (from_corner l []) budget refl refl new-stays
-        (subst (AreRows ms held) (sym new-rows) kept.are_rows) best
-        (kept-start tree ms held setting l kept sound new.problem.rows [] (new-rows ∙ sym (append-nil l.problem.rows))) runs
 
     new-counted : IsPermutation (all_attributes tree.views) (map (λ s. s.attr) new.problem.stays)
     new-counted =
@@ -124,23 +96,3 @@ module _ (tree : ViewTree) (ms : MetricList) (held : List Item) (setting : Setti
         few = (let same : length new.problem.rows ≡ length l.problem.rows = ap length new-rows in omega (arith, same, kept.counted.few));
       };
     }
-
-    -- each value is as before
-    one-value : AreAtStays new → IsKeptLayout new → (a : ℕ) → HasStay new.problem.stays a → value_of new.values a ≡ value_of l.values a
-    one-value at also a has =
-        let (k, v, within, inside, (e, f)) = value_in new.values a (stay_valued new.problem.stays new.values also.best.attributes a has) in
-        let there : Contains l.values v =
-        subst (Contains l.values) inside
-        (subst (λ (vs : List (ℕ × Fraction)). All (Contains l.values) vs) (sym at)
-        (All-map (Contains l.values) (λ (s : Stay). (s.attr, s.target)) new.problem.stays
-        (subst (λ (ss : List Stay). All (λ s. Contains l.values (s.attr, s.target)) ss) (sym (ap (λ (p : Problem). p.stays) done)) (front_at (view_attributes id) l.values))) k v within) in
-        let (j, small, found) = there in
-        value_is l.values a (value_of new.values a) sound.apart (j, v, small, found, (e, f))
-
-    pub keep-values : AreAtStays new → IsKeptLayout new → values_by_number (scene_at tree ms held setting new) ≡ values_by_number (scene_at tree ms held setting l)
-    keep-values at also =
-        all-same (all_attributes tree.views) (recursion_from_All (HasStay new.problem.stays) (all_attributes tree.views) (numbers_held new.problem.stays (all_attributes tree.views) (IsPermutation-sym (all_attributes tree.views) (map (λ s. s.attr) new.problem.stays) new-counted)))
-      where
-        all-same : (ns : List ℕ) → Each (HasStay new.problem.stays) ns → map {B = ℕ × Fraction} (λ a. (a, value_of new.values a)) ns ≡ map {B = ℕ × Fraction} (λ a. (a, value_of l.values a)) ns
-        all-same [] h = refl
-        all-same (n ∷ ns) h = ap₂ (λ (f : Fraction) (vs : List (ℕ × Fraction)). pair n f ∷ vs) (one-value at also n h.0) (all-same ns h.1)

@@ -13,3 +13,5 @@ pub mod Turned
 pub mod KeptViews
 pub mod Views
 pub mod MovedFrames
+pub mod Stepped
+pub mod DraftSteps

@@ -1,5 +1,5 @@
 -- Which views have other frames than in an earlier scene.
-use Rattle.std.proofs.Common.{◌≡◌, ◌∙◌, ◌⊎◌, ℕ, zero, suc, ◌+◌, ◌-◌, ◌*◌, ◌<◌, ◌≤◌, Bool, cond, List, [], ◌∷◌, length, map, get_or, Some, None, Option, refl, sym, ap, subst, arith, inl, inr, eq-eqb, ne_eqb, All, IsPermutation}
+use Rattle.std.proofs.Common.{◌≡◌, ◌∙◌, ◌⊎◌, ℕ, zero, suc, ◌+◌, ◌*◌, ◌<◌, ◌≤◌, Bool, cond, List, [], ◌∷◌, length, map, get_or, Some, None, Option, refl, sym, ap, subst, arith, inl, inr, eq-eqb, ne_eqb, All, IsPermutation}
 use Rattle.std.specs.List.{Contains}
 use Rattle.std.specs.Prelude.{Any, option_map}
 use Rattle.std.proofs.lemmas.Bool.{cases_eq}

@@ -1,4 +1,4 @@
--- What the engine's answers come to where an item more is held, and which items may be held next.
+-- The problem of a draft with an item more, and which items may be held next.
 use Rattle.std.proofs.Common.{◌≡◌, ◌∙◌, ℕ, suc, ◌+◌, ◌^◌, ◌<◌, ◌≤◌, true, false, cond, Some, List, [], ◌∷◌, ◌++◌, length, All, refl, sym, ap, subst, arith}
 use Rattle.std.proofs.lemmas.List.{append-nil}
 use Rattle.std.proofs.lemmas.List.Elements.{All-from_recursion}
@@ -8,24 +8,20 @@ use Rattle.frac_core.specs.Fraction.{Fraction}
 use Rattle.problem_core.specs.declared.limits.TheConstants.{NUMBER_LIMIT}
 use Rattle.problem_core.specs.Kept.{IsRow, IsWhole}
 use Rattle.problem_core.specs.Layout.{Row, Problem}
-use Rattle.cert_core.specs.Paths.{Path}
-use Rattle.cert_core.specs.declared.stops.RunStop.{RunStop}
 use Rattle.view_tree.specs.Views.{IsTree, LiveView, ViewTree, view_named}
 use Rattle.constraint_compile.specs.Compiled.{AreRowsNow, CompiledLine}
 use Rattle.compile_parts.specs.Meaning.{MetricList}
 use Rattle.constraint_compile.specs.Suggestions.{IsSuggestion, suggested_row}
 use Rattle.constraint_compile.specs.declared.suggestion.Suggestion.{Suggestion}
-use Rattle.layout_solver.specs.Begins.{IsStopFrom}
-use Rattle.layout_solver.specs.Layouts.{Layout, AreBest, IsKeptLayout, stays_at, with_added, zeros}
+use Rattle.layout_solver.specs.Layouts.{Layout, IsKeptLayout, with_added}
 use Rattle.held_items.specs.declared.limits.TheConstants.{MOST_ROWS}
-use Rattle.scenes.specs.Drafts.{IsNextIntrinsic, IsNextSuggestion}
-use Rattle.scenes.specs.Steps.{LeadsTo, RunStopsAt, from_corner}
+use Rattle.scenes.specs.Drafts.{HasRoomFor, IsNextIntrinsic, IsNextSuggestion, MayComeNext}
 use Rattle.held_items.specs.Attributes.{IsNextLine, all_attributes}
-use Rattle.held_items.specs.Items.{AreRows, Intrinsic, Item, OfLine, Sized, Suggested, has_size, intrinsic_rows, size_rows}
+use Rattle.held_items.specs.Items.{AreRows, Intrinsic, Item, OfLine, OfView, OfWindow, Sized, Suggested, has_size, intrinsic_rows, size_rows}
 use Rattle.held_items.specs.declared.item.intrinsic.IntrinsicSize.{IntrinsicSize}
 use Rattle.held_items.specs.Kept.{IsIntrinsic, IsItem, IsNamed}
 use Rattle.scenes.specs.Kept.{IsKept, IsNextItem, scene_at}
-use Rattle.scenes.specs.Steps.{IsProblemOf, IsSolved}
+use Rattle.scenes.specs.Steps.{IsProblemOf}
 use Rattle.scenes.specs.Scene.{Scene, with_item, with_window}
 use Rattle.scenes.proofs.Engines.Additions.{counted-added, rows-whole}
 use Rattle.held_items.proofs.HeldRows.IntrinsicRows.{intrinsic-below, intrinsic-may, intrinsic-ranked}
@@ -34,9 +30,9 @@ use Rattle.held_items.proofs.HeldRows.ItemRows.{all-more, rows-more}
 use Rattle.held_items.proofs.HeldRows.NextRows.{line-below, line-may}
 use Rattle.held_items.proofs.HeldRows.Ranks.{HasRank, ranks-now, size-ranked}
 use Rattle.scenes.proofs.Engines.Reached.{settled}
-use Rattle.scenes.proofs.Engines.Solved.{kept-start, solved-at, still, stops-at}
+use Rattle.scenes.proofs.Engines.Posed.{still}
+use Rattle.scenes.proofs.Engines.Requests.{rows_is, stays_is}
 use Rattle.held_items.proofs.Suggestions.SuggestionTerms.{suggestion-may}
-use Rattle.scenes.proofs.Removals.LeavingScenes.{rows_is, stays_is}
 use Rattle.scenes.specs.declared.scene.past.Setting.{Setting}
 use Rattle.scenes.proofs.Settings.{later}
 
@@ -47,22 +43,6 @@ module _ (tree : ViewTree) (ms : MetricList) (held : List Item) (setting : Setti
 
   with-rows : (rows : List Row) → rows ≡ l.problem.rows ++ more → AreRows ms (held ++ item ∷ []) rows
   with-rows rows joined = subst (AreRows ms (held ++ item ∷ [])) (sym joined) (rows-more ms held item l.problem.rows more kept.are_rows fits.own)
-
-  pub item-stops : (budget : ℕ) (stop : RunStop) → IsStopFrom (from_corner l more) (with_added l [] more) budget stop
-      → RunStopsAt (scene_at tree ms held setting l) (with_item (scene_at tree ms held setting l) item (length more)) budget stop
-  item-stops budget stop stops =
-      stops-at (scene_at tree ms held setting l) (with_item (scene_at tree ms held setting l) item (length more)) (l.problem.rows ++ more) (from_corner l more) (stays_at (l.values ++ zeros [])) budget stop
-      (with-rows (l.problem.rows ++ more) refl) (still tree ms held setting l kept sound)
-      (kept-start tree ms held setting l kept sound (l.problem.rows ++ more) more refl) stops
-
-  pub item-solved : (items : List Item) (new : Layout) (budget : ℕ) → new.problem ≡ with_added l [] more → AreBest new.problem new.values
-      → LeadsTo (from_corner l more) new budget → items ≡ held ++ item ∷ []
-      → (path : Path) × IsSolved (scene_at tree ms held setting l) (with_item (scene_at tree ms held setting l) item (length more)) budget path (scene_at tree ms items (later setting (length more)) new)
-  item-solved items new budget done best runs items_is =
-      solved-at (scene_at tree ms held setting l) (with_item (scene_at tree ms held setting l) item (length more)) items (setting.next_row + length more) new (from_corner l more) budget items_is refl
-      (stays_is new.problem (with_added l [] more) done ∙ sym (still tree ms held setting l kept sound))
-      (with-rows new.problem.rows (rows_is new.problem (with_added l [] more) done))
-      best (kept-start tree ms held setting l kept sound new.problem.rows more (rows_is new.problem (with_added l [] more) done)) runs
 
   pub item-kept : (items : List Item) (new : Layout) → new.problem ≡ with_added l [] more → items ≡ held ++ item ∷ [] → setting.next_row + length more ≤ NUMBER_LIMIT
       → IsKept (scene_at tree ms items (later setting (length more)) new)
@@ -109,20 +89,18 @@ found-small (u ∷ views) name v all found =
     ] found
 
 -- the numbers are those of a row and of a view
-pub suggestion-own : (tree : ViewTree) (ms : MetricList) (held : List Item) (setting : Setting) (l : Layout) (s : Suggestion) → IsKept (scene_at tree ms held setting l) → IsTree tree
-    → IsNextSuggestion (scene_at tree ms held setting l) s → setting.next_row < 2 ^ 31 → IsSuggestion s
-suggestion-own tree ms held setting l s kept whole new small = record {
-  row = (omega (arith, new.row, kept.next), omega (arith, new.row, small));
+pub suggestion-own : (scene : Scene) (s : Suggestion) → 0 < scene.next_row → IsTree scene.tree → IsNextSuggestion scene s → scene.next_row < NUMBER_LIMIT → IsSuggestion s
+suggestion-own scene s above whole new small = record {
+  row = (omega (arith, new.row, above), omega (arith, new.row, small));
   rank = new.rank.1;
-  view = (let low : new.view.id < 2 ^ 29 = found-small tree.views new.name new.view (λ k d within. omega (arith, whole.below k d within, whole.ids)) new.found in omega (arith, low, new.same));
+  view = (let low : new.view.id < 2 ^ 29 = found-small scene.tree.views new.name new.view (λ k d within. omega (arith, whole.below k d within, whole.ids)) new.found in omega (arith, low, new.same));
 }
 
-pub intrinsic-own : (tree : ViewTree) (ms : MetricList) (held : List Item) (setting : Setting) (l : Layout) (s : IntrinsicSize) → IsKept (scene_at tree ms held setting l) → IsTree tree
-    → IsNextIntrinsic (scene_at tree ms held setting l) s → setting.next_row + 4 ≤ NUMBER_LIMIT → IsIntrinsic s
-intrinsic-own tree ms held setting l s kept whole new small = record {
-  above = omega (arith, new.row, kept.next);
+pub intrinsic-own : (scene : Scene) (s : IntrinsicSize) → 0 < scene.next_row → IsTree scene.tree → IsNextIntrinsic scene s → scene.next_row + 4 ≤ NUMBER_LIMIT → IsIntrinsic s
+intrinsic-own scene s above whole new small = record {
+  above = omega (arith, new.row, above);
   below = omega (arith, new.row, small);
-  view = (let low : new.view.id < 2 ^ 29 = found-small tree.views new.name new.view (λ k d within. omega (arith, whole.below k d within, whole.ids)) new.found in omega (arith, low, new.same));
+  view = (let low : new.view.id < 2 ^ 29 = found-small scene.tree.views new.name new.view (λ k d within. omega (arith, whole.below k d within, whole.ids)) new.found in omega (arith, low, new.same));
   resist = new.resist;
   hug = new.hug;
 }
@@ -164,7 +142,7 @@ module _ (tree : ViewTree) (ms : MetricList) (held : List Item) (setting : Setti
       let count : length more ≡ 1 = ap length are in
       record {
         own = are;
-        is = suggestion-own tree ms held setting l s kept whole new small;
+        is = suggestion-own (scene_at tree ms held setting l) s kept.next whole new small;
         named = tt;
         may = rw are (suggestion-may tree.views setting.next_row s new.name new.view new.found new.same new.row own);
         below = subst (λ (n : ℕ). All (λ (r : Row). r.id < setting.next_row + n) more) (sym count)
@@ -180,7 +158,7 @@ module _ (tree : ViewTree) (ms : MetricList) (held : List Item) (setting : Setti
       let count : length more ≡ 4 = ap length are in
       record {
         own = are;
-        is = intrinsic-own tree ms held setting l s kept whole new small;
+        is = intrinsic-own (scene_at tree ms held setting l) s kept.next whole new small;
         named = tt;
         may = rw are (intrinsic-may s tree.views setting.next_row new.name new.view new.found new.same new.row own);
         below = subst (λ (n : ℕ). All (λ (r : Row). r.id < setting.next_row + n) more) (sym count)
@@ -188,3 +166,20 @@ module _ (tree : ViewTree) (ms : MetricList) (held : List Item) (setting : Setti
         ranks = subst (All HasRank) (sym are) (intrinsic-ranked s new.resist.0 new.hug.0);
         room = omega (arith, room, count);
       }
+
+  -- what may come next
+  pub item-next : (item : Item) (more : List Row) → IsTree tree → MayComeNext (scene_at tree ms held setting l) item more → All IsRow more → HasRoomFor (scene_at tree ms held setting l) (length more)
+      → IsNextItem (scene_at tree ms held setting l) item more
+  item-next OfWindow more whole next each room = absurd next
+  item-next (OfView first_row id) more whole next each room = absurd next
+  item-next (Sized first_row w h) more whole (same, none, are) each room =
+      let two : length more ≡ 2 = ap length are in
+      subst (λ (n : ℕ). IsNextItem (scene_at tree ms held setting l) (Sized n w h) more) (sym same)
+      (size-next w h more whole (are ∙ ap (λ (n : ℕ). size_rows n w h) same) each (omega (arith, room.rows, two)) (omega (arith, room.numbers, two)))
+  item-next (OfLine group line) more whole (are, next) each room = line-next (scene_at tree ms held setting l) group line more next are each room.rows
+  item-next (Suggested s) more whole (next, are) each room =
+      let one : length more ≡ 1 = ap length are in
+      suggestion-next s more whole next (omega (arith, room.numbers, one)) are each (omega (arith, room.rows, one))
+  item-next (Intrinsic s) more whole (next, are) each room =
+      let four : length more ≡ 4 = ap length are in
+      intrinsic-next s more whole next (omega (arith, room.numbers, four)) are each (omega (arith, room.rows, four))

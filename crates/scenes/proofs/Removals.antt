@@ -1,5 +1,4 @@
 -- What leaves a scene: rows, views, and the problem that is left.
 pub mod LeavingViews
-pub mod LeavingWhole
 pub mod LeavingProblems
 pub mod LeavingScenes

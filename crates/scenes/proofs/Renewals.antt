@@ -13,14 +13,14 @@ use Rattle.held_items.specs.declared.item.renewing.Renewal.TheVariants as renewa
 use Rattle.held_items.specs.declared.item.HeldSize.{HeldSize}
 use Rattle.held_items.specs.declared.item.intrinsic.IntrinsicSize.{IntrinsicSize}
 use Rattle.held_items.specs.Items.{AreRows, Intrinsic, Item, OfLine, OfView, OfWindow, Size, Sized, Suggested, has_size, intrinsic_of, size_of}
-use Rattle.held_items.specs.Kept.{IsIntrinsic, IsItem, changes_of, renewed_by}
+use Rattle.held_items.specs.Kept.{HasRowNumbers, IsIntrinsic, IsItem, changes_of, renewed_by}
 use Rattle.held_items.proofs.Constants.Renewed.{IsHeldFor, IsNearFor, can-renew, renewed-rising, shifted-renewed}
-use Rattle.held_items.proofs.Constants.Resized.{some-held}
-use Rattle.scenes.specs.Drafts.{IsNearIntrinsic, IsNearRenewal, renewed_draft, window_draft}
+use Rattle.held_items.proofs.Constants.Resized.{size-number, some-held}
+use Rattle.scenes.specs.Drafts.{IsNearIntrinsic, IsNearRenewal, renewed_draft}
 use Rattle.scenes.specs.Kept.{IsKept, scene_at}
-use Rattle.scenes.specs.Scene.{Scene}
+use Rattle.scenes.specs.Scene.{Scene, with_window}
 use Rattle.scenes.specs.declared.scene.past.Setting.{Setting}
-use Rattle.scenes.proofs.Engines.Solved.{is}
+use Rattle.scenes.proofs.Engines.Posed.{is}
 
 -- what is near is held
 pub near-held : (scene : Scene) (to : Renewal) → IsNearRenewal scene to → IsHeldFor scene.held to
@@ -36,10 +36,10 @@ near-near scene (renewal.Intrinsic again) near = (near.width, near.height)
 
 -- ---- another size of the window
 
-pub window-again : (scene : Scene) (size : HeldSize) (before : Size) → size_of scene.held ≡ Some before → renewed_draft scene (renewal.Size size) ≡ window_draft scene size.size
+pub window-again : (scene : Scene) (size : HeldSize) (before : Size) → size_of scene.held ≡ Some before → renewed_draft scene (renewal.Size size) ≡ with_window scene size.size.width size.size.height
 window-again scene size before some = sym (again scene size (some-held scene.held before some))
   where
-    again : (scene : Scene) (size : HeldSize) → has_size scene.held ≡ true → window_draft scene size.size ≡ renewed_draft scene (renewal.Size size)
+    again : (scene : Scene) (size : HeldSize) → has_size scene.held ≡ true → with_window scene size.size.width size.size.height ≡ renewed_draft scene (renewal.Size size)
     again scene size some = rw some refl
 
 -- ---- the numbers of a view's size
@@ -68,6 +68,12 @@ preferred-own scene s each near =
       resist = subst IsRowRank (sym near.resist) own.0.resist;
       hug = subst IsRowRank (sym near.hug) own.0.hug;
     }
+
+-- the numbers of the rows of what is near are such
+pub near-numbers : (scene : Scene) (to : Renewal) → All IsItem scene.held → IsNearRenewal scene to → HasRowNumbers to
+near-numbers scene (renewal.Size size) each (before, found, same, width, height) = (let number = size-number scene.held before each found in omega (arith, same, number.1))
+near-numbers scene (renewal.Suggestion again) each near = tt
+near-numbers scene (renewal.Intrinsic again) each near = preferred-own scene again each near
 
 -- ---- their rows
 

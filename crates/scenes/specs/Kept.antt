@@ -3,7 +3,7 @@ use Rattle.std.specs.Prelude.{◌≡◌, ℕ, ◌+◌, ◌<◌, ◌≤◌, List,
 use Rattle.compile_parts.specs.Meaning.{MetricList}
 use Rattle.view_tree.specs.Views.{ViewTree}
 use Rattle.problem_core.specs.Layout.{Row}
-use Rattle.version_list.specs.Versions.{Versions}
+use Rattle.version_lists.specs.Versions.{Versions}
 use Rattle.layout_solver.specs.Layouts.{Layout, Solution, solution_of}
 use Rattle.scenes.specs.declared.scene.past.Past.{Past}
 use Rattle.scenes.specs.declared.scene.past.Setting.{Setting}

@@ -5,8 +5,8 @@ use Rattle.view_tree.specs.Drops as tree
 use Rattle.script_text.specs.declared.words.AttrWord.{AttrWord}
 use Rattle.held_items.specs.Items.{Item, is_intrinsic, is_suggestion}
 use Rattle.scenes.specs.Scene.{Scene, moved}
-use Rattle.held_items.specs.Leaving.{attributes_in, goes_with, is_in_group, numbers_of, other_stays, staying}
-use Rattle.layout_solver.specs.Removals.{Leaving}
+use Rattle.held_items.specs.Leaving.{attributes_in, goes_with, is_in_group, numbers_of, staying}
+use Rattle.layout_solver.specs.Removals.{Leaving, other_stays}
 
 -- the problem of the scene, with the stays moved to the values
 abbrev pub stood_of : Scene → Problem

@@ -8,3 +8,4 @@ pub mod Scene
 pub mod Steps
 pub mod Sweeping
 pub mod Moves
+pub mod Stepping

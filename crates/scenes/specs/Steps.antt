@@ -3,15 +3,17 @@ use Rattle.std.specs.Prelude.{◌≡◌, ℕ, ◌<◌, ◌⊎◌, List, [], ◌+
 use Rattle.problem_core.specs.Layout.{Row, Problem}
 use Rattle.cert_core.specs.Paths.{Path}
 use Rattle.cert_core.specs.declared.stops.RunStop.{RunStop}
-use Rattle.layout_solver.specs.Removals.{CanLeave, HasRemoved, IsRemoveStop, Leaving, without, stood}
-use Rattle.layout_solver.specs.declared.removing.RemoveStop.{RemoveStop}
-use Rattle.layout_solver.specs.Begins.{Start, IsReached, IsRunTo, IsStopFrom}
+use Rattle.layout_solver.specs.Removals.{CanLeave, HasRemoved, IsRemoveStop, Leaving, without}
+use Rattle.layout_solver.specs.declared.request.RequestStop.{RequestStop}
+use Rattle.layout_solver.specs.Begins.{Start, IsRunTo, IsStopFrom}
 use Rattle.problem_core.specs.Unfit.{without_constant}
-use Rattle.scenes.specs.Scene.{Scene, problem_of, draft_problem, AreDraftRows, Becomes}
+use Rattle.scenes.specs.Scene.{Scene, problem_of, draft_problem, AreDraftRows, Becomes, IsBestScene}
 use Rattle.scenes.specs.Leaving.{stood_of}
-use Rattle.layout_solver.specs.Layouts.{Layout}
 use Rattle.cert_core.specs.declared.stops.RunStop.TheVariants as run
-use Rattle.layout_solver.specs.declared.removing.RemoveStop.TheVariants as removal
+use Rattle.layout_solver.specs.declared.request.RequestStop.TheVariants as request
+use Rattle.layout_solver.specs.Keeping.{NoConflict}
+use Rattle.layout_solver.specs.Requests.{run_of, still_of}
+use Rattle.scenes.specs.Drafts.{Kind, Any, Free, Left, Turned}
 
 -- ---- solving
 
@@ -70,7 +72,7 @@ pub record HasLeft (scene draft : Scene) (budget : ℕ) (new : Scene) : Type 0 w
   pub run : HasRemoved (stood_of scene) scene.corner leaving budget new.corner
 
 -- the removal stops so
-pub record CannotLeave (scene draft : Scene) (budget : ℕ) (stop : RemoveStop) : Type 0 where
+pub record CannotLeave (scene draft : Scene) (budget : ℕ) (stop : RequestStop) : Type 0 where
   pub rows : List Row
   pub are : AreDraftRows draft rows
   pub leaving : Leaving
@@ -85,36 +87,44 @@ IsProblemOf draft p = AreDraftRows draft p.rows × (p.stays ≡ draft.stays)
 
 -- ---- stops
 
--- these have left the problem, and a run within the budget has led to the new corner, at which the values
--- stand
-pub record HasRun (old new : Layout) (l : Leaving) (budget : ℕ) : Type 0 where
-  pub run : HasRemoved (stood old) old.corner l budget new.corner
-  pub reached : IsReached new.problem new.corner new.values
-
--- a run within the budget has led from there to the new corner, at which the values stand
-pub record LeadsTo (s : Start) (new : Layout) (budget : ℕ) : Type 0 where
-  pub path : Path
-  pub run : IsRunTo s new.problem budget new.corner path
-  pub reached : IsReached new.problem new.corner new.values
-
--- why the scene can't become the draft, where memory may be wanting
-abbrev pub LeaveStopsAt : Scene → Scene → ℕ → RemoveStop → Type 0
-LeaveStopsAt scene draft budget (removal.Unfit still at) =
-    CannotLeave scene draft budget (removal.Unfit still at)
-LeaveStopsAt scene draft budget (removal.Spent path) = CannotLeave scene draft budget (removal.Spent path)
-LeaveStopsAt scene draft budget removal.OutOfMemory = Unit {0}
-
--- where an engine begins that takes more rows
-abbrev pub from_corner : Layout → List Row → Start
-from_corner l rows = record { dual = false; before = l.problem.rows; joining = rows; kept = l.corner }
-
--- where one begins whose rows get other constants
-abbrev pub from_shifts : Layout → Start
-from_shifts l = record { dual = true; before = l.problem.rows; joining = []; kept = l.corner }
-
 -- why the run from the scene to the draft stops, where memory may be wanting
 abbrev pub RunStopsAt : Scene → Scene → ℕ → RunStop → Type 0
 RunStopsAt scene draft budget (run.Conflict by) = IsStopped scene draft budget (run.Conflict by)
 RunStopsAt scene draft budget (run.Unfit at) = IsStopped scene draft budget (run.Unfit at)
 RunStopsAt scene draft budget (run.Spent path) = IsStopped scene draft budget (run.Spent path)
 RunStopsAt scene draft budget run.OutOfMemory = Unit {0}
+
+-- why a removal stops: never for a conflict
+abbrev pub LeaveStopsAt : Scene → Scene → ℕ → RequestStop → Type 0
+LeaveStopsAt scene draft budget (request.Conflict by) = ⊥
+LeaveStopsAt scene draft budget (request.Unfit still at) =
+    CannotLeave scene draft budget (request.Unfit still at)
+LeaveStopsAt scene draft budget (request.Spent path) = CannotLeave scene draft budget (request.Spent path)
+LeaveStopsAt scene draft budget request.OutOfMemory = Unit {0}
+
+-- the run to the draft stops so, and no leaving row is still held
+pub record StopsRunning (scene draft : Scene) (budget : ℕ) (stop : RequestStop) : Type 0 where
+  pub none : still_of stop ≡ []
+  pub stops : RunStopsAt scene draft budget (run_of stop)
+
+-- ---- the end of a step, by kind
+
+-- the new scene is the draft; its rows are those of what it holds, and its values are the best
+pub record IsTurned (draft new : Scene) : Type 0 where
+  pub same : new ≡ draft
+  pub rows : AreDraftRows new new.rows
+  pub best : IsBestScene new
+
+-- the step from the scene to the draft leads to the new scene
+abbrev pub ComesTo : Kind → Scene → Scene → ℕ → Scene → Type 0
+ComesTo Free scene draft budget new = HasSolved scene draft budget new
+ComesTo Any scene draft budget new = HasSolved scene draft budget new
+ComesTo Left scene draft budget new = HasLeft scene draft budget new
+ComesTo Turned scene draft budget new = IsTurned draft new
+
+-- the step from the scene to the draft stops so
+abbrev pub StopsAs : Kind → Scene → Scene → ℕ → RequestStop → Type 0
+StopsAs Free scene draft budget stop = StopsRunning scene draft budget stop × NoConflict (run_of stop)
+StopsAs Any scene draft budget stop = StopsRunning scene draft budget stop
+StopsAs Left scene draft budget stop = LeaveStopsAt scene draft budget stop
+StopsAs Turned scene draft budget stop = stop ≡ request.OutOfMemory

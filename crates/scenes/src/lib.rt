@@ -8,26 +8,29 @@
 //! ```
 //! let mut scene = Scene::new(alloc)?;
 //! let size = WindowSize { width: Frac::of(100, 1)?, height: Frac::of(50, 1)? };
-//! scene.size_problem(&size)?;           // the rows with the window's two constants, and its stays
-//! scene.take_size(&size, 100_000)?;
+//! let first = NewItem::size(alloc, scene.next_row(), &size)?;
+//! scene.take(Draft::More(first), 100_000)?;
 //! scene.frame(ViewId(0));               // left 0, top 0, width 100, height 50
 //! scene.moved()?;                       // Some([0])
 //! scene.back();                         // the window without a size again
 //! ```
 //!
-//! A scene's contracts are stated over [drafts](`Scene`): a draft is a scene of which only rows and values
-//! are still those of before (`specs/Drafts.antt`). A step comes to the draft with the best values of its
-//! rows, by a path within the budget, or tells why it can't (`specs/Steps.antt`); a problem is that of a
-//! draft. What is best for each width of the window between two is told of a scene as it is, with the stays
-//! at the present values (`specs/Sweeping.antt`).
+//! A [`Draft`] is one change of a scene. [`Scene::take`] makes it, [`Scene::pose`] returns the problem that
+//! `take` would solve, and [`Scene::core`] says whether that problem's required rows clash. Each of the three
+//! first works out the step to the draft, before anything changes: the request to the engine, what happens to
+//! the items, and the views, metrics and setting of the next scene (`specs/Stepping.antt`).
+//!
+//! Contracts are stated over the draft's scene (`drafted`, in `specs/Drafts.antt`): only its rows, values and
+//! corner are still the old ones. `take` replaces these by the rows of what is held then, and their best
+//! values, along a path within the budget, or says why it can't (`specs/Steps.antt`). A sweep of the window's
+//! width is stated over the scene as it is, with the stays at the present values (`specs/Sweeping.antt`).
 //!
 //! Invariant of a [`Scene`] (`IsKeptHistory`): the engine's problem is that of the rows of what is held, at
 //! this scene and at each earlier one that is kept; and so its values are best (`layout_solver`).
 //!
 //! In reading order: `limits`; `scene` is what the held items (`held_items`) come to, with `past` (earlier
-//! scenes), `frames`, `values`, `drafts` (problems that no engine has taken), `problems` (those of a scene's
-//! changes), `solving` (the engine's changes), `steps` (the scene's) and `updates`, those in which no view
-//! comes and nothing leaves, and `moved` (the views whose frames are others than before); `laws`.
+//! scenes), `frames`, `values`, `draft` (the changes), `step` (the steps that make them), `problems` (the
+//! problem of the scene as it is) and `moved` (the views whose frames changed); `laws`.
 #![tactic(auto)]
 
 mod laws;
@@ -37,4 +40,4 @@ mod scene;
 pub use laws::moved_is_not_stayed;
 pub use limits::FIRST_BUDGET;
 pub use scene::Scene;
-pub use scene::updates::{NewLine, NewMetrics, Update};
+pub use scene::draft::{Draft, NewMetrics};

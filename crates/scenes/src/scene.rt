@@ -1,51 +1,45 @@
 // The scene: what a script has said so far, and the engine that solves it.
-pub(crate) mod drafts;
+pub(crate) mod draft;
 pub(crate) mod frames;
 mod moved;
 pub(crate) mod past;
 mod problems;
-pub(crate) mod solving;
-mod steps;
-pub(crate) mod updates;
+pub(crate) mod step;
 pub(crate) mod values;
 
 ghost use Rattle.std.specs.Prelude.{◌≡◌, ◌<◌, ◌≤◌, ◌∷◌, [], true, false, length};
-ghost use Rattle.std.specs.Prelude.{None, slice_get, IfOk, IfErr, IfSome, IfNone};
+ghost use Rattle.std.specs.Prelude.{None, Some, slice_get, IfOk, IfErr, IfSome, IfNone};
 ghost use Rattle.std.specs.List.{list_any};
-ghost use Rattle.std.specs.Prelude.{All};
-ghost use Rattle.problem_core.specs.Kept.{IsRow};
 ghost use Rattle.problem_core.specs.Window.{structural_rows};
 ghost use Rattle.layout_solver.specs.Layouts.{AreBest};
 ghost use Rattle.held_items.specs.declared.item.Item.TheVariants as kind;
 ghost use Rattle.held_items.specs.Moving.{FitsAfter};
-ghost use Rattle.scenes.specs.Kept.{own_or};
 ghost use Rattle.scenes.specs.Scene.{new_stays};
+ghost use Rattle.scenes.specs.Stepping.{IsFirst};
 ghost use Rattle.scenes.specs.Kept.{no_layout};
 
 use crate::limits::FIRST_BUDGET;
 use crate::scene::frames::{frame_of, place_of};
-use crate::scene::past::{Past, Setting};
+use crate::scene::past::{Past, Setting, put};
 use crate::scene::values::values_of;
 use cert_core::Best;
-use conflict_core::{CoreStop, Found, core_near};
 use constraint_compile::Suggestion;
 use diagnosis::{Diagnosis, Stopped, diagnose};
 use frac_core::{Frac, OutOfMemory};
 use held_items::{
-    EARLIER, FIRST_FREE_ROW, IntrinsicSize, Item, WindowSize, fits_after, has_group, has_size,
-    intrinsic_of, is_near_size, line_count, size_of, structural_rows, suggestion_of,
-    view_attributes,
+    EARLIER, FIRST_FREE_ROW, HeldSize, IntrinsicSize, Item, fits_after, has_group, has_size,
+    intrinsic_of, line_count, size_of, structural_rows, suggestion_of, view_attributes,
 };
-use layout_solver::Engine;
+use layout_solver::{Engine, Request};
 use name_tables::Metrics;
-use problem_core::{Problem, Row, Values};
+use problem_core::Values;
 use script_text::{AttrWord, Direction};
 use std::alloc::Global;
 use std::collections::VecDeque;
 use std::marker::Model;
 use sweep_param::sweep;
 use sweep_run::{Stretch, SweepStop};
-use version_list::VersionList;
+use version_lists::VersionList;
 use view_tree::{Tree, VIEW_LIMIT, ViewId};
 
 /// The views, the metrics, what is held, and the engine with the rows of it and the best values; and those of
@@ -90,17 +84,25 @@ fn first_items(alloc: Global) -> Result<VersionList<Item>, OutOfMemory>
     Ok(items)
 }
 
+// The request that adds the window's attributes and rows.
+fn first_request(alloc: Global) -> Result<Request, OutOfMemory>
+    ensures { IfOk result IsFirst }
+{
+    let rows = structural_rows(alloc)?;
+    let attrs = Vec::from_slice(alloc, &view_attributes(0))?;
+    Ok(Request::Add { attrs, rows })
+}
+
 // Gives an engine without rows those of the window, with no layout before.
-fn begin(engine: &mut Engine, rows: &[Row]) -> Result<(), OutOfMemory>
+fn begin(engine: &mut Engine, request: &Request) -> Result<(), OutOfMemory>
     requires new { engine.old ≡ no_layout }
-    requires rows { rows.now ≡ structural_rows }
-    requires each { All IsRow rows.now }
+    requires first { IsFirst request.now }
     ensures problem { IfOk result
         (λ _. engine.new.problem ≡ record { rows = structural_rows; stays = new_stays 0 }) }
     ensures earlier { IfOk result (λ _. engine.new.earlier ≡ []) }
 {
     // This run needs few exchanges, and all numbers fit, so it is memory that is wanting.
-    let Ok(()) = engine.add(&view_attributes(0), rows, FIRST_BUDGET) else {
+    let Ok(()) = engine.solve(request, FIRST_BUDGET) else {
         return Err(OutOfMemory);
     };
     engine.forget();
@@ -114,9 +116,9 @@ fn first_engine(alloc: Global) -> Result<Engine, OutOfMemory>
     ensures best { IfOk result (λ engine. AreBest engine.problem engine.values) }
     ensures earlier { IfOk result (λ engine. engine.earlier ≡ []) }
 {
-    let rows = structural_rows(alloc)?;
+    let request = first_request(alloc)?;
     let mut engine = Engine::new(alloc)?;
-    match begin(&mut engine, &rows) {
+    match begin(&mut engine, &request) {
         Ok(()) => {
             engine.show_layout(); // for the proof: what an engine keeps
             Ok(engine)
@@ -125,15 +127,6 @@ fn first_engine(alloc: Global) -> Result<Engine, OutOfMemory>
             drop(engine); // for the proof: moved on
             Err(OutOfMemory)
         }
-    }
-}
-
-// Puts what an earlier scene has of its own in the place of what the scene after it has.
-fn put_own<T: Drop>(mut own: Option<T>, part: &mut T)
-    ensures { part.new ≡ own_or own part.old }
-{
-    if let Some(own) = own.take() {
-        *part = own;
     }
 }
 
@@ -151,14 +144,13 @@ impl Scene {
     ghost use Rattle.diagnosis.specs.Diagnoses.{findings_of};
     ghost use Rattle.scenes.specs.Diagnosing.{AreFindingsOf, IsCertificateOf, IsProbedStop};
     ghost use Rattle.scenes.specs.Frames.{IsFrameAt, IsFrameOf};
-    ghost use Rattle.conflict_core.specs.Shown.{IsFound};
-    ghost use Rattle.conflict_core.specs.Trials.{IsCoreStop};
     ghost use Rattle.scenes.specs.Sweeping.{AreSweptOf, IsFarSweep, IsSweepStopOf};
     ghost use Rattle.sweep_laws.specs.Fractions.{IsNoMore};
     ghost use Rattle.sweep_run.specs.Told.{stretches_of};
-    ghost use Rattle.held_items.specs.Items.{has_size, intrinsic_of, line_count, suggestion_of};
+    ghost use Rattle.held_items.specs.Items.{has_size, intrinsic_of, line_count, size_of};
+    ghost use Rattle.held_items.specs.Items.{suggestion_of};
+    ghost use Rattle.held_items.specs.Kept.{size_in};
     ghost use Rattle.held_items.specs.Leaving.{is_in_group};
-    ghost use Rattle.held_items.specs.Moving.{IsFarSize};
     ghost use Rattle.scenes.specs.Scene.{IsFirstCorner, first_history, values_by_number};
     ghost use Rattle.std.specs.VecDeque.{deque_capacity};
     ghost use Rattle.held_items.specs.declared.limits.TheConstants.{EARLIER};
@@ -327,15 +319,12 @@ impl Scene {
         has_size(self.items.as_slice())
     }
 
-    /// Whether the window has a size, and this one is too far from it.
-    pub fn is_far(&self, size: &WindowSize) -> bool
-        ensures yes { result ≡ true → IsFarSize self.now.scene.held size.now.width size.now.height }
-        ensures no { result ≡ false → IsFarSize self.now.scene.held size.now.width size.now.height → ⊥ }
+    /// The window's size, if one is held.
+    pub fn size(&self) -> Option<HeldSize>
+        ensures some { IfSome result (λ s. size_of self.now.scene.held ≡ Some (size_in s)) }
+        ensures none { IfNone result (has_size self.now.scene.held ≡ false) }
     {
-        match size_of(self.items.as_slice()) {
-            Some(held) => !is_near_size(&held.size, size),
-            None => false,
-        }
+        size_of(self.items.as_slice())
     }
 
     /// Whether a line of this group is held.
@@ -368,17 +357,6 @@ impl Scene {
     {
         self.engine.show_layout(); // for the proof: what an engine keeps
         diagnose(self.alloc, &mut self.engine, budget)
-    }
-
-    /// Whether the required rows of a problem have a solution, and if they have none, a core of them. The
-    /// scene is as before. The engine is asked first, which has most of the rows of a problem that a change
-    /// would lead to.
-    pub fn core(&mut self, p: &Problem, budget: u64) -> Result<Found, CoreStop>
-        ensures found { IfOk result (IsFound p.now) }
-        ensures stop { IfErr result (IsCoreStop p.now budget) }
-        ensures same { self.new ≡ self.old }
-    {
-        core_near(self.alloc, &mut self.engine, p, budget)
     }
 
     /// The multipliers that show the values to be best: those of the corner's levels, in the form in which a
@@ -440,8 +418,6 @@ impl Scene {
         };
         self.items.back();
         self.engine.back();
-        self.setting = past.setting;
-        put_own(past.tree, &mut self.tree);
-        put_own(past.metrics, &mut self.metrics);
+        let _after = put(past, &mut self.tree, &mut self.metrics, &mut self.setting);
     }
 }

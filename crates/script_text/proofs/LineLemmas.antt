@@ -8,12 +8,14 @@ use Rattle.span_text.specs.Tokens.{Word, Sign, Name, Number, skip}
 use Rattle.span_text.proofs.PieceLemmas.{Lives, begins, end_answers, lit_answers, or_answers}
 use Rattle.span_text.proofs.TokensLemmas.{end_lives, name_lives, number_lives, whole_lives, right_lives, blanks_answers, lit_only, end_never, or_never, table_inside, table_apart, table_outside, words_lives, words_only, words_never}
 use Rattle.span_text.proofs.Offsets.{answers_ok, answers_err, stops_leaves}
-use Rattle.script_text.specs.Meaning.{Meaning, Said}
+use Rattle.script_text.specs.Meaning.{Change, Said}
 use Rattle.script_text.specs.Meaning as mean
-use Rattle.script_text.specs.Grammar.{decimal, is_any, says_nothing, Apart, Arguments, Any, Follows, LineOf, Line, words_of, change_words, changing_words, plain_words, new_change_words, new_plain_words}
-use Rattle.script_text.specs.LineReading.{is_hash, apart_at, arguments_at, changing_at, follows_at, said_at, content_at, line_at}
-use Rattle.script_text.specs.declared.words.Keyword.{Keyword}
-use Rattle.script_text.specs.declared.words.Keyword.TheVariants as key
+use Rattle.script_text.specs.Grammar.{decimal, does_change, does_plain, is_any, Apart, ChangeText, PlainText, Any, Follows, LineOf, Line, words_of, change_words, changing_words, plain_words, new_change_words, new_plain_words}
+use Rattle.script_text.specs.LineReading.{is_hash, apart_at, change_at, plain_at, changing_at, follows_at, said_at, content_at, line_at}
+use Rattle.script_text.specs.declared.words.ChangeWord.{ChangeWord}
+use Rattle.script_text.specs.declared.words.ChangeWord.TheVariants as change
+use Rattle.script_text.specs.declared.words.PlainWord.{PlainWord}
+use Rattle.script_text.specs.declared.words.PlainWord.TheVariants as plain
 use Rattle.script_text.specs.declared.words.FirstWord.{FirstWord}
 use Rattle.script_text.specs.declared.words.FirstWord.TheVariants as first
 use Rattle.script_text.specs.declared.words.Version.{Version}
@@ -37,51 +39,55 @@ unfolding change_words plain_words new_change_words new_plain_words
 all_commands version.One = record { table = record { full = refl; free = refl; bytes = refl }; inside = refl; no_hash = refl }
 all_commands version.Two = record { table = record { full = refl; free = refl; bytes = refl }; inside = refl; no_hash = refl }
 
-arguments_lives : (len : ℕ) (k : Keyword) → Lives is_space (Arguments len k)
-arguments_lives len key.View = name_lives is_space refl (λ n. right_lives is_space (Word (codes "in") (Name (λ p. End (mean.View n (Some p))))) (end_lives is_space (mean.View n None)))
-arguments_lives len key.Tree = rest_lives (λ t. mean.Tree t (len - length t))
-arguments_lives len key.Drop = name_lives is_space refl (λ n. end_lives is_space (mean.Drop n))
-arguments_lives len key.Metric = name_lives is_space refl (λ n. right_lives is_space (Sign 45 (Number (λ v. End (mean.Metric n (decimal true v))))) (number_lives is_space refl (λ v. end_lives is_space (mean.Metric n (decimal false v)))))
-arguments_lives len key.Window = number_lives is_space refl (λ w. number_lives is_space refl (λ h. end_lives is_space (mean.Window (decimal false w) (decimal false h))))
-arguments_lives len key.Vfl = vfl_lives len
-arguments_lives len key.Constrain = name_lives is_space refl linear_lives
-arguments_lives len key.Remove = name_lives is_space refl (λ n. end_lives is_space (mean.Remove n))
-arguments_lives len key.Suggest = suggest_lives len
-arguments_lives len key.Release = release_lives len
-arguments_lives len key.Undo = end_lives is_space mean.Undo
-arguments_lives len key.Budget = whole_lives is_space refl (λ n. end_lives is_space (mean.Budget n))
-arguments_lives len key.Frames = end_lives is_space mean.Frames
-arguments_lives len key.Rows = end_lives is_space mean.Rows
-arguments_lives len key.Diagnose = end_lives is_space mean.Diagnose
-arguments_lives len key.Certify = end_lives is_space mean.Certify
-arguments_lives len key.Direction = direction_lives len
-arguments_lives len key.Size = size_lives len
-arguments_lives len key.Unsize = name_lives is_space refl (λ n. end_lives is_space (mean.Unsize n))
-arguments_lives len key.Keep = name_lives is_space refl (λ n. end_lives is_space (mean.Keep n))
-arguments_lives len key.Sweep = sweep_lives len
+change_lives : (len : ℕ) (k : ChangeWord) → Lives is_space (ChangeText len k)
+change_lives len change.View = name_lives is_space refl (λ n. right_lives is_space (Word (codes "in") (Name (λ p. End (mean.Views (mean.View n (Some p)))))) (end_lives is_space (mean.Views (mean.View n None))))
+change_lives len change.Tree = rest_lives (λ t. mean.Views (mean.Tree t (len - length t)))
+change_lives len change.Metric = name_lives is_space refl (λ n. right_lives is_space (Sign 45 (Number (λ v. End (mean.Update (mean.Metric n (decimal true v)))))) (number_lives is_space refl (λ v. end_lives is_space (mean.Update (mean.Metric n (decimal false v))))))
+change_lives len change.Window = number_lives is_space refl (λ w. number_lives is_space refl (λ h. end_lives is_space (mean.Update (mean.Window (decimal false w) (decimal false h)))))
+change_lives len change.Vfl = vfl_lives len
+change_lives len change.Constrain = name_lives is_space refl linear_lives
+change_lives len change.Suggest = suggest_lives len
+change_lives len change.Size = size_lives len
+change_lives len change.Drop = name_lives is_space refl (λ n. end_lives is_space (mean.Leave (mean.Drop n)))
+change_lives len change.Remove = name_lives is_space refl (λ n. end_lives is_space (mean.Leave (mean.Remove n)))
+change_lives len change.Release = release_lives len
+change_lives len change.Unsize = name_lives is_space refl (λ n. end_lives is_space (mean.Leave (mean.Unsize n)))
+change_lives len change.Direction = direction_lives len
+change_lives len change.Keep = name_lives is_space refl (λ n. end_lives is_space (mean.Keep n))
 
-arguments_answers : (len : ℕ) (k : Keyword) (s : List ℕ) → Answers (Arguments len k) s (arguments_at len k s)
-arguments_answers len key.View s = view_answers len s
-arguments_answers len key.Tree s = tree_answers len s
-arguments_answers len key.Drop s = named_answers mean.Drop s
-arguments_answers len key.Metric s = metric_answers len s
-arguments_answers len key.Window s = window_answers len s
-arguments_answers len key.Vfl s = vfl_answers len s
-arguments_answers len key.Constrain s = constrain_answers len s
-arguments_answers len key.Remove s = named_answers mean.Remove s
-arguments_answers len key.Suggest s = suggest_answers len s
-arguments_answers len key.Release s = release_answers len s
-arguments_answers len key.Undo s = bare_answers mean.Undo s
-arguments_answers len key.Budget s = budget_answers len s
-arguments_answers len key.Frames s = bare_answers mean.Frames s
-arguments_answers len key.Rows s = bare_answers mean.Rows s
-arguments_answers len key.Diagnose s = bare_answers mean.Diagnose s
-arguments_answers len key.Certify s = bare_answers mean.Certify s
-arguments_answers len key.Direction s = direction_answers len s
-arguments_answers len key.Size s = size_answers len s
-arguments_answers len key.Unsize s = named_answers mean.Unsize s
-arguments_answers len key.Keep s = named_answers mean.Keep s
-arguments_answers len key.Sweep s = sweep_answers len s
+plain_lives : (k : PlainWord) → Lives is_space (PlainText k)
+plain_lives plain.Undo = end_lives is_space mean.Undo
+plain_lives plain.Budget = whole_lives is_space refl (λ n. end_lives is_space (mean.Budget n))
+plain_lives plain.Frames = end_lives is_space mean.Frames
+plain_lives plain.Rows = end_lives is_space mean.Rows
+plain_lives plain.Diagnose = end_lives is_space mean.Diagnose
+plain_lives plain.Certify = end_lives is_space mean.Certify
+plain_lives plain.Sweep = sweep_lives
+
+change_answers : (len : ℕ) (k : ChangeWord) (s : List ℕ) → Answers (ChangeText len k) s (change_at len k s)
+change_answers len change.View s = view_answers len s
+change_answers len change.Tree s = tree_answers len s
+change_answers len change.Metric s = metric_answers len s
+change_answers len change.Window s = window_answers len s
+change_answers len change.Vfl s = vfl_answers len s
+change_answers len change.Constrain s = constrain_answers len s
+change_answers len change.Suggest s = suggest_answers len s
+change_answers len change.Size s = size_answers len s
+change_answers len change.Drop s = named_answers (λ n. mean.Leave (mean.Drop n)) s
+change_answers len change.Remove s = named_answers (λ n. mean.Leave (mean.Remove n)) s
+change_answers len change.Release s = release_answers len s
+change_answers len change.Unsize s = named_answers (λ n. mean.Leave (mean.Unsize n)) s
+change_answers len change.Direction s = direction_answers len s
+change_answers len change.Keep s = named_answers mean.Keep s
+
+plain_answers : (k : PlainWord) (s : List ℕ) → Answers (PlainText k) s (plain_at k s)
+plain_answers plain.Undo s = bare_answers mean.Undo s
+plain_answers plain.Budget s = budget_answers s
+plain_answers plain.Frames s = bare_answers mean.Frames s
+plain_answers plain.Rows s = bare_answers mean.Rows s
+plain_answers plain.Diagnose s = bare_answers mean.Diagnose s
+plain_answers plain.Certify s = bare_answers mean.Certify s
+plain_answers plain.Sweep s = sweep_answers s
 
 -- ---- what follows the first word
 
@@ -93,26 +99,28 @@ changing_outside : table_outside is_space changing_words ≡ true
 unfolding change_words new_change_words
 changing_outside = refl
 
-abbrev Changing : ℕ → Rel Meaning
-Changing len = Words changing_words (λ k. Apart (Arguments len k))
+abbrev Changing : ℕ → Rel Change
+Changing len = Words changing_words (λ k. Apart (ChangeText len k))
 
-arguments_begin : (len : ℕ) (k : Keyword) → Begins (Apart (Arguments len k)) []
-arguments_begin len k = begins (apart_lives (arguments_lives len k))
+change_begins : (len : ℕ) (k : ChangeWord) → Begins (Apart (ChangeText len k)) []
+change_begins len k = begins (apart_lives (change_lives len k))
 
 changing_lives : (len : ℕ) → Lives is_space (Changing len)
-changing_lives len = words_lives (λ k. Apart (Arguments len k)) is_space changing_words changing_outside changing_table.bytes (arguments_begin len)
+changing_lives len = words_lives (λ k. Apart (ChangeText len k)) is_space changing_words changing_outside changing_table.bytes (change_begins len)
 
 changing_answers : (len : ℕ) (s : List ℕ) → Answers (Changing len) s (changing_at len s)
 unfolding changing_at
-changing_answers len s = table_answers (λ k. Apart (Arguments len k)) (λ k t. apart_at t >>= arguments_at len k) (arguments_begin len) s
-    (λ k t h. apart_answers (Arguments len k) (arguments_at len k) (arguments_lives len k) t (λ u i. arguments_answers len k u)) changing_words changing_table
+changing_answers len s = table_answers (λ k. Apart (ChangeText len k)) (λ k t. apart_at t >>= change_at len k) (change_begins len) s
+    (λ k t h. apart_answers (ChangeText len k) (change_at len k) (change_lives len k) t (λ u i. change_answers len k u)) changing_words changing_table
 
 follows_lives : (len : ℕ) (w : FirstWord) → Lives is_space (Follows len w)
-follows_lives len (first.Command k) = made_lives mean.Does is_space (arguments_lives len k)
+follows_lives len (first.Change k) = made_lives does_change is_space (change_lives len k)
+follows_lives len (first.Plain k) = made_lives does_plain is_space (plain_lives k)
 follows_lives len first.Why = made_lives mean.Why is_space (changing_lives len)
 
 follows_answers : (len : ℕ) (w : FirstWord) (s : List ℕ) → Answers (Follows len w) s (follows_at len w s)
-follows_answers len (first.Command k) s = made_answers mean.Does (Arguments len k) s (arguments_at len k s) (arguments_answers len k s)
+follows_answers len (first.Change k) s = made_answers does_change (ChangeText len k) s (change_at len k s) (change_answers len k s)
+follows_answers len (first.Plain k) s = made_answers does_plain (PlainText k) s (plain_at k s) (plain_answers k s)
 follows_answers len first.Why s = made_answers mean.Why (Changing len) s (changing_at len s) (changing_answers len s)
 
 -- ---- lines
@@ -129,21 +137,21 @@ module _ (words : List (List ℕ × FirstWord)) (are : AreCommands words) where
   said_answers len s = table_answers (λ w. Apart (Follows len w)) (λ w t. apart_at t >>= follows_at len w) (λ w. begins (apart_lives (follows_lives len w))) s
       (λ w t h. apart_answers (Follows len w) (follows_at len w) (follows_lives len w) t (λ u i. follows_answers len w u)) words are.table
 
-  content_lives : (len : ℕ) → Lives is_space (Or (Saying len) (End says_nothing))
-  content_lives len = right_lives is_space (Saying len) (end_lives is_space says_nothing)
+  content_lives : (len : ℕ) → Lives is_space (Or (Saying len) (End mean.Nothing))
+  content_lives len = right_lives is_space (Saying len) (end_lives is_space mean.Nothing)
 
-  content_answers : (len : ℕ) (s : List ℕ) → Answers (Or (Lit (codes "#") (Any says_nothing)) (Or (Saying len) (End says_nothing))) s (content_at words len s)
+  content_answers : (len : ℕ) (s : List ℕ) → Answers (Or (Lit (codes "#") (Any mean.Nothing)) (Or (Saying len) (End mean.Nothing))) s (content_at words len s)
   unfolding content_at
-  content_answers len s = or_answers is_hash (Lit (codes "#") (Any says_nothing)) (Or (Saying len) (End says_nothing)) _ _
-      (lit_only _ is_hash 35 [] refl) (or_never is_hash (Saying len) (End says_nothing) (words_never (λ w. Apart (Follows len w)) is_hash words are.no_hash) (end_never is_hash says_nothing))
-      (begins (right_lives is_space (Lit (codes "#") (Any says_nothing)) (content_lives len))) s
-      (lit_answers (Any says_nothing) (λ _. Ok says_nothing) ([], says_nothing, tt, refl) (codes "#") s refl (λ t h. any_answers says_nothing t))
-      (or_answers is_any (Saying len) (End says_nothing) _ _ (words_only (λ w. Apart (Follows len w)) is_any words are.inside) (end_never is_any says_nothing) (begins (content_lives len)) s
-      (said_answers len s) (end_answers says_nothing s))
+  content_answers len s = or_answers is_hash (Lit (codes "#") (Any mean.Nothing)) (Or (Saying len) (End mean.Nothing)) _ _
+      (lit_only _ is_hash 35 [] refl) (or_never is_hash (Saying len) (End mean.Nothing) (words_never (λ w. Apart (Follows len w)) is_hash words are.no_hash) (end_never is_hash mean.Nothing))
+      (begins (right_lives is_space (Lit (codes "#") (Any mean.Nothing)) (content_lives len))) s
+      (lit_answers (Any mean.Nothing) (λ _. Ok mean.Nothing) ([], mean.Nothing, tt, refl) (codes "#") s refl (λ t h. any_answers mean.Nothing t))
+      (or_answers is_any (Saying len) (End mean.Nothing) _ _ (words_only (λ w. Apart (Follows len w)) is_any words are.inside) (end_never is_any mean.Nothing) (begins (content_lives len)) s
+      (said_answers len s) (end_answers mean.Nothing s))
 
   of_answers : (len : ℕ) (s : List ℕ) → Answers (LineOf words len) s (content_at words len (skip s))
-  of_answers len s = blanks_answers (Or (Lit (codes "#") (Any says_nothing)) (Or (Saying len) (End says_nothing))) (content_at words len)
-      (right_lives is_space (Lit (codes "#") (Any says_nothing)) (content_lives len)) s (λ t i. content_answers len t)
+  of_answers len s = blanks_answers (Or (Lit (codes "#") (Any mean.Nothing)) (Or (Saying len) (End mean.Nothing))) (content_at words len)
+      (right_lives is_space (Lit (codes "#") (Any mean.Nothing)) (content_lives len)) s (λ t i. content_answers len t)
 
   pub line_answers : (s : List ℕ) → Answers (Line words) s (line_at words s)
   unfolding line_at

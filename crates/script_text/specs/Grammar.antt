@@ -12,10 +12,12 @@ use Rattle.span_text.specs.declared.limits.TheConstants.{UNIT}
 use Rattle.frac_core.specs.Fraction.{Fraction}
 use Rattle.vfl_text.specs.Grammar.{FormatText, relations}
 use Rattle.script_text.specs.Fractions.{lowest}
-use Rattle.script_text.specs.Meaning.{Operand, Term, Linear, Meaning, Said}
+use Rattle.script_text.specs.Meaning.{Operand, Term, Linear, Change, Plain, Said}
 use Rattle.script_text.specs.Meaning as mean
-use Rattle.script_text.specs.declared.words.Keyword.{Keyword}
-use Rattle.script_text.specs.declared.words.Keyword.TheVariants as key
+use Rattle.script_text.specs.declared.words.ChangeWord.{ChangeWord}
+use Rattle.script_text.specs.declared.words.ChangeWord.TheVariants as change
+use Rattle.script_text.specs.declared.words.PlainWord.{PlainWord}
+use Rattle.script_text.specs.declared.words.PlainWord.TheVariants as plain
 use Rattle.script_text.specs.declared.words.FirstWord.{FirstWord}
 use Rattle.script_text.specs.declared.words.FirstWord.TheVariants as first
 use Rattle.script_text.specs.declared.words.Align.{Align}
@@ -29,51 +31,54 @@ use Rattle.script_text.specs.declared.words.Version.TheVariants as version
 use Rattle.span_text.specs.Reading.{either, read_word}
 use Rattle.problem_core.specs.declared.parts.Rel as parts
 
--- the words of commands that make changes, in each version
-unfoldable pub change_words : List (List ℕ × Keyword)
-change_words = (codes "view", key.View) ∷ (codes "tree", key.Tree) ∷ (codes "drop", key.Drop)
-    ∷ (codes "metric", key.Metric) ∷ (codes "window", key.Window) ∷ (codes "vfl", key.Vfl)
-    ∷ (codes "constrain", key.Constrain) ∷ (codes "remove", key.Remove) ∷ (codes "suggest", key.Suggest)
-    ∷ (codes "release", key.Release) ∷ []
+-- the words of changes, in both versions
+unfoldable pub change_words : List (List ℕ × ChangeWord)
+change_words = (codes "view", change.View) ∷ (codes "tree", change.Tree) ∷ (codes "drop", change.Drop)
+    ∷ (codes "metric", change.Metric) ∷ (codes "window", change.Window) ∷ (codes "vfl", change.Vfl)
+    ∷ (codes "constrain", change.Constrain) ∷ (codes "remove", change.Remove)
+    ∷ (codes "suggest", change.Suggest) ∷ (codes "release", change.Release) ∷ []
 
--- those of the others
-unfoldable pub plain_words : List (List ℕ × Keyword)
-plain_words = (codes "undo", key.Undo) ∷ (codes "budget", key.Budget) ∷ (codes "frames", key.Frames)
-    ∷ (codes "rows", key.Rows) ∷ (codes "diagnose", key.Diagnose) ∷ (codes "certify", key.Certify) ∷ []
+-- the words of the other commands, in both versions
+unfoldable pub plain_words : List (List ℕ × PlainWord)
+plain_words = (codes "undo", plain.Undo) ∷ (codes "budget", plain.Budget) ∷ (codes "frames", plain.Frames)
+    ∷ (codes "rows", plain.Rows) ∷ (codes "diagnose", plain.Diagnose) ∷ (codes "certify", plain.Certify) ∷ []
 
--- those of changes that version 2 has besides
-unfoldable pub new_change_words : List (List ℕ × Keyword)
-new_change_words = (codes "direction", key.Direction) ∷ (codes "size", key.Size)
-    ∷ (codes "unsize", key.Unsize) ∷ (codes "keep", key.Keep) ∷ []
+-- the words of changes that only version 2 has
+unfoldable pub new_change_words : List (List ℕ × ChangeWord)
+new_change_words = (codes "direction", change.Direction) ∷ (codes "size", change.Size)
+    ∷ (codes "unsize", change.Unsize) ∷ (codes "keep", change.Keep) ∷ []
 
--- that of the other command that version 2 has besides
-unfoldable pub new_plain_words : List (List ℕ × Keyword)
-new_plain_words = (codes "sweep", key.Sweep) ∷ []
+-- the word of the other command that only version 2 has
+unfoldable pub new_plain_words : List (List ℕ × PlainWord)
+new_plain_words = (codes "sweep", plain.Sweep) ∷ []
 
--- those of all that version 2 has besides
-abbrev pub new_words : List (List ℕ × Keyword)
-new_words = new_change_words ++ new_plain_words
-
--- the words of all commands of version 1
-abbrev pub first_words : List (List ℕ × Keyword)
-first_words = change_words ++ plain_words
-
--- the words of all commands of version 2 that make changes
-abbrev pub changing_words : List (List ℕ × Keyword)
+-- the words of all changes of version 2
+abbrev pub changing_words : List (List ℕ × ChangeWord)
 changing_words = change_words ++ new_change_words
 
--- a command's word as the first of a line
-abbrev pub command_word : List ℕ × Keyword → List ℕ × FirstWord
-command_word w = (w.0, first.Command w.1)
+-- the words of all other commands of version 2
+abbrev pub all_plain_words : List (List ℕ × PlainWord)
+all_plain_words = plain_words ++ new_plain_words
+
+-- a change's word as the first of a line
+abbrev pub change_first : List ℕ × ChangeWord → List ℕ × FirstWord
+change_first w = (w.0, first.Change w.1)
+
+-- the word of another command as the first of a line
+abbrev pub plain_first : List ℕ × PlainWord → List ℕ × FirstWord
+plain_first w = (w.0, first.Plain w.1)
+
+-- the words of these commands as the first of a line
+abbrev pub command_words : List (List ℕ × ChangeWord) → List (List ℕ × PlainWord) → List (List ℕ × FirstWord)
+command_words changes others = map change_first changes ++ map plain_first others
 
 -- the first words of lines in this version: in version 2 `why`, and those of its commands
 abbrev pub words_of : Version → List (List ℕ × FirstWord)
-words_of version.One = map command_word first_words
-words_of version.Two = (codes "why", first.Why) ∷ map command_word (first_words ++ new_words)
+words_of version.One = command_words change_words plain_words
+words_of version.Two = (codes "why", first.Why) ∷ command_words changing_words all_plain_words
 
 -- each word is tried before r
-abbrev pub over : List (List ℕ × Keyword) → List ℕ → Result (Keyword × List ℕ) ℕ
-    → Result (Keyword × List ℕ) ℕ
+abbrev pub over : {K : Type 0} → List (List ℕ × K) → List ℕ → Result (K × List ℕ) ℕ → Result (K × List ℕ) ℕ
 over [] s r = r
 over (w ∷ ws) s r = either (read_word w.0 w.1 s) (over ws s r)
 
@@ -165,21 +170,22 @@ abbrev pub linear : List Term → parts.Rel → List Term → Option Meant → �
 linear l r e p w = record { left = l; rel = r; right = e; priority = p; weight = w }
 
 -- two expressions with a relation between them, and perhaps a priority and a weight
-abbrev pub LinearText : (Linear → Rel Meaning) → Rel Meaning
+abbrev pub LinearText : (Linear → Rel Change) → Rel Change
 LinearText F = Expression (λ l. Relation (λ r. Expression (λ e.
     Priority (λ p. Weight (λ w. F (linear l r e p w))))))
 
 -- a value, and perhaps a priority
-abbrev pub Suggestion : List ℕ → AttrWord → Bool → Rel Meaning
-Suggestion n w is_negative = Number (λ v. Priority (λ p. End (mean.Suggest n w (decimal is_negative v) p)))
+abbrev pub Suggestion : List ℕ → AttrWord → Bool → Rel Change
+Suggestion n w is_negative = Number (λ v. Priority (λ p.
+    End (mean.Update (mean.Suggest n w (decimal is_negative v) p))))
 
 -- a text of F, whose value is made of F's value
 abbrev pub Made : {M A : Type 0} → (M → A) → Rel M → Rel A
 Made {M} f F s v = (m : M) × F s m × (v ≡ f m)
 
 -- a format of this group with this alignment
-abbrev pub FormatLine : List ℕ → Option Align → Rel Meaning
-FormatLine n a = Made (mean.Vfl n a) FormatText
+abbrev pub FormatLine : List ℕ → Option Align → Rel Change
+FormatLine n a = Made (λ f. mean.Update (mean.Vfl n a f)) FormatText
 
 -- any byte
 abbrev pub is_any : ℕ → Bool
@@ -189,33 +195,40 @@ is_any b = true
 abbrev pub Rest : {A : Type 0} → (List ℕ → A) → Rel A
 Rest f = One is_any (λ b t v. v ≡ f (b ∷ t))
 
--- What follows the word of a command in a line of this length. The text of a tree runs to the line's end.
-abbrev pub Arguments : ℕ → Keyword → Rel Meaning
-Arguments len key.View = Name (λ n. Or (Word (codes "in") (Name (λ p. End (mean.View n (Some p)))))
-    (End (mean.View n None)))
-Arguments len key.Tree = Rest (λ t. mean.Tree t (len - length t))
-Arguments len key.Drop = Name (λ n. End (mean.Drop n))
-Arguments len key.Metric = Name (λ n. Or (Sign minus (Number (λ v. End (mean.Metric n (decimal true v)))))
-    (Number (λ v. End (mean.Metric n (decimal false v)))))
-Arguments len key.Window = Number (λ w. Number (λ h. End (mean.Window (decimal false w) (decimal false h))))
-Arguments len key.Vfl = Name (λ n. Or (Word (codes "align")
+-- What follows the word of a change in a line of this length. The text of a tree runs to the line's end.
+abbrev pub ChangeText : ℕ → ChangeWord → Rel Change
+ChangeText len change.View = Name (λ n. Or (Word (codes "in")
+    (Name (λ p. End (mean.Views (mean.View n (Some p)))))) (End (mean.Views (mean.View n None))))
+ChangeText len change.Tree = Rest (λ t. mean.Views (mean.Tree t (len - length t)))
+ChangeText len change.Metric = Name (λ n. Or
+    (Sign minus (Number (λ v. End (mean.Update (mean.Metric n (decimal true v))))))
+    (Number (λ v. End (mean.Update (mean.Metric n (decimal false v))))))
+ChangeText len change.Window = Number (λ w. Number (λ h.
+    End (mean.Update (mean.Window (decimal false w) (decimal false h)))))
+ChangeText len change.Vfl = Name (λ n. Or (Word (codes "align")
     (Words alignments (λ a. Tail (FormatLine n (Some a))))) (FormatLine n None))
-Arguments len key.Constrain = Name (λ n. LinearText (λ l. End (mean.Constrain n l)))
-Arguments len key.Remove = Name (λ n. End (mean.Remove n))
-Arguments len key.Suggest = Attribute (λ n w. Or (Sign minus (Suggestion n w true)) (Suggestion n w false))
-Arguments len key.Release = Attribute (λ n w. End (mean.Release n w))
-Arguments len key.Undo = End mean.Undo
-Arguments len key.Budget = Whole (λ n. End (mean.Budget n))
-Arguments len key.Frames = End mean.Frames
-Arguments len key.Rows = End mean.Rows
-Arguments len key.Diagnose = End mean.Diagnose
-Arguments len key.Certify = End mean.Certify
-Arguments len key.Direction = Words directions (λ d. Tail (End (mean.Turn d)))
-Arguments len key.Size = Name (λ n. Number (λ w. Number (λ h. Pull (codes "hug") (λ p.
-    Pull (codes "resist") (λ q. End (mean.Size n (decimal false w) (decimal false h) p q))))))
-Arguments len key.Unsize = Name (λ n. End (mean.Unsize n))
-Arguments len key.Keep = Name (λ n. End (mean.Keep n))
-Arguments len key.Sweep = Word (codes "width") (Number (λ a. Number (λ b.
+ChangeText len change.Constrain = Name (λ n. LinearText (λ l. End (mean.Update (mean.Constrain n l))))
+ChangeText len change.Suggest = Attribute (λ n w.
+    Or (Sign minus (Suggestion n w true)) (Suggestion n w false))
+ChangeText len change.Size = Name (λ n. Number (λ w. Number (λ h. Pull (codes "hug") (λ p.
+    Pull (codes "resist") (λ q.
+    End (mean.Update (mean.Size n (decimal false w) (decimal false h) p q)))))))
+ChangeText len change.Drop = Name (λ n. End (mean.Leave (mean.Drop n)))
+ChangeText len change.Remove = Name (λ n. End (mean.Leave (mean.Remove n)))
+ChangeText len change.Release = Attribute (λ n w. End (mean.Leave (mean.Release n w)))
+ChangeText len change.Unsize = Name (λ n. End (mean.Leave (mean.Unsize n)))
+ChangeText len change.Direction = Words directions (λ d. Tail (End (mean.Turn d)))
+ChangeText len change.Keep = Name (λ n. End (mean.Keep n))
+
+-- what follows the word of another command
+abbrev pub PlainText : PlainWord → Rel Plain
+PlainText plain.Undo = End mean.Undo
+PlainText plain.Budget = Whole (λ n. End (mean.Budget n))
+PlainText plain.Frames = End mean.Frames
+PlainText plain.Rows = End mean.Rows
+PlainText plain.Diagnose = End mean.Diagnose
+PlainText plain.Certify = End mean.Certify
+PlainText plain.Sweep = Word (codes "width") (Number (λ a. Number (λ b.
     End (mean.Sweep (decimal false a) (decimal false b)))))
 
 -- whatever follows
@@ -230,19 +243,24 @@ is_no_space b = not (is_space b)
 abbrev pub Apart : {A : Type 0} → Rel A → Rel A
 Apart F = Not is_no_space (Blanks F)
 
--- What follows the first word of a line of this length. Behind `why` stands a command that makes a change.
-abbrev pub Follows : ℕ → FirstWord → Rel Said
-Follows len (first.Command k) = Made mean.Does (Arguments len k)
-Follows len first.Why = Made mean.Why (Words changing_words (λ k. Apart (Arguments len k)))
+-- that a line asks for this change
+abbrev pub does_change : Change → Said
+does_change c = mean.Does (mean.Changes c)
 
--- what is said by a blank line or a comment
-abbrev pub says_nothing : Said
-says_nothing = mean.Does mean.Nothing
+-- that a line is this other command
+abbrev pub does_plain : Plain → Said
+does_plain c = mean.Does (mean.Other c)
+
+-- What follows the first word of a line of this length. After `why` there is a change.
+abbrev pub Follows : ℕ → FirstWord → Rel Said
+Follows len (first.Change k) = Made does_change (ChangeText len k)
+Follows len (first.Plain k) = Made does_plain (PlainText k)
+Follows len first.Why = Made mean.Why (Words changing_words (λ k. Apart (ChangeText len k)))
 
 -- a line of this length: a comment, one whose first word is one of these, or a blank line
 abbrev pub LineOf : List (List ℕ × FirstWord) → ℕ → Rel Said
-LineOf words len = Blanks (Or (Lit (codes "#") (Any says_nothing))
-    (Or (Words words (λ w. Apart (Follows len w))) (End says_nothing)))
+LineOf words len = Blanks (Or (Lit (codes "#") (Any mean.Nothing))
+    (Or (Words words (λ w. Apart (Follows len w))) (End mean.Nothing)))
 
 -- a line and what it says
 unfoldable pub Line : List (List ℕ × FirstWord) → Rel Said

@@ -1,6 +1,6 @@
 -- Reading a line from left to right.
 use Rattle.std.specs.Prelude.{ℕ, Bool, true, false, List, [], ◌∷◌, ◌++◌, Option, Some, None, Result, Ok}
-use Rattle.std.specs.Prelude.{codes, pos, ◌==◌, ◌-◌, if◌then◌else◌, length, Err}
+use Rattle.std.specs.Prelude.{codes, pos, ◌==◌, ◌-◌, if◌then◌else◌, length, min, Err}
 use Rattle.span_text.specs.Bytes.{at_sign, hash, lower_a, lower_i, lower_w, minus, plus, star}
 use Rattle.span_text.specs.Reading.{◌>>=◌, lit_at, starts, tried, end_at}
 use Rattle.span_text.specs.Classes.{is_letter, is_space}
@@ -16,15 +16,17 @@ use Rattle.frac_core.specs.Fraction.{Fraction}
 use Rattle.vfl_text.specs.Grammar.{relations}
 use Rattle.vfl_text.specs.Reading.{format_at, is_at, is_minus}
 use Rattle.script_text.specs.Fractions.{lowest}
-use Rattle.script_text.specs.Meaning.{Operand, Term, Linear, Meaning, Said}
+use Rattle.script_text.specs.Meaning.{Operand, Term, Linear, Change, Plain, Said}
 use Rattle.script_text.specs.Meaning as mean
 use Rattle.script_text.specs.Grammar.{alignments, attributes, changing_words, decimal, directions, times}
-use Rattle.script_text.specs.Grammar.{linear, is_any, says_nothing}
+use Rattle.script_text.specs.Grammar.{does_change, does_plain, is_any, linear}
 use Rattle.problem_core.specs.declared.parts.Rel.{Rel}
 use Rattle.script_text.specs.declared.words.Align.{Align}
 use Rattle.script_text.specs.declared.words.AttrWord.{AttrWord}
-use Rattle.script_text.specs.declared.words.Keyword.{Keyword}
-use Rattle.script_text.specs.declared.words.Keyword.TheVariants as key
+use Rattle.script_text.specs.declared.words.ChangeWord.{ChangeWord}
+use Rattle.script_text.specs.declared.words.ChangeWord.TheVariants as change
+use Rattle.script_text.specs.declared.words.PlainWord.{PlainWord}
+use Rattle.script_text.specs.declared.words.PlainWord.TheVariants as plain
 use Rattle.script_text.specs.declared.words.FirstWord.{FirstWord}
 use Rattle.script_text.specs.declared.words.FirstWord.TheVariants as first
 
@@ -61,7 +63,7 @@ abbrev pub is_hash : ℕ → Bool
 is_hash b = b == hash
 
 -- what follows the word `view`: a name, and perhaps `in` and the parent's name
-unfoldable pub view_at : List ℕ → Result Meaning ℕ
+unfoldable pub view_at : List ℕ → Result Change ℕ
 view_at s = do
   name ← name_at s
   if starts is_i name.1
@@ -69,32 +71,32 @@ view_at s = do
         rest ← word_at (codes "in") name.1
         parent ← name_at rest
         _ ← end_at parent.1
-        Ok (mean.View name.0 (Some parent.0)))
+        Ok (mean.Views (mean.View name.0 (Some parent.0))))
       else (do
         _ ← end_at name.1
-        Ok (mean.View name.0 None))
+        Ok (mean.Views (mean.View name.0 None)))
 
 -- the text of a tree, which is the end of a line of this length
-unfoldable pub tree_at : ℕ → List ℕ → Result Meaning ℕ
+unfoldable pub tree_at : ℕ → List ℕ → Result Change ℕ
 tree_at len [] = Err 0
-tree_at len (b ∷ s) = Ok (mean.Tree (b ∷ s) (len - length (b ∷ s)))
+tree_at len (b ∷ s) = Ok (mean.Views (mean.Tree (b ∷ s) (len - length (b ∷ s))))
 
 -- a name and no more
-unfoldable pub named_at : (List ℕ → Meaning) → List ℕ → Result Meaning ℕ
+unfoldable pub named_at : (List ℕ → Change) → List ℕ → Result Change ℕ
 named_at f s = do
   name ← name_at s
   _ ← end_at name.1
   Ok (f name.0)
 
 -- for the metric of this name a value
-unfoldable pub metric_value_at : List ℕ → Bool → List ℕ → Result Meaning ℕ
+unfoldable pub metric_value_at : List ℕ → Bool → List ℕ → Result Change ℕ
 metric_value_at name is_negative s = do
   value ← number_at s
   _ ← end_at value.1
-  Ok (mean.Metric name (decimal is_negative value.0))
+  Ok (mean.Update (mean.Metric name (decimal is_negative value.0)))
 
 -- what follows the word `metric`: a name, perhaps -, and a value
-unfoldable pub metric_at : List ℕ → Result Meaning ℕ
+unfoldable pub metric_at : List ℕ → Result Change ℕ
 metric_at s = do
   name ← name_at s
   if starts is_minus name.1
@@ -104,22 +106,22 @@ metric_at s = do
       else metric_value_at name.0 false name.1
 
 -- what follows the word `window`: a width and a height
-unfoldable pub window_at : List ℕ → Result Meaning ℕ
+unfoldable pub window_at : List ℕ → Result Change ℕ
 window_at s = do
   width ← number_at s
   height ← number_at width.1
   _ ← end_at height.1
-  Ok (mean.Window (decimal false width.0) (decimal false height.0))
+  Ok (mean.Update (mean.Window (decimal false width.0) (decimal false height.0)))
 
 -- what follows the word `budget`: a whole number
-unfoldable pub budget_at : List ℕ → Result Meaning ℕ
+unfoldable pub budget_at : List ℕ → Result Plain ℕ
 budget_at s = do
   value ← whole_at s
   _ ← end_at value.1
   Ok (mean.Budget value.0)
 
 -- nothing more, with this meaning
-unfoldable pub bare_at : Meaning → List ℕ → Result Meaning ℕ
+unfoldable pub bare_at : Plain → List ℕ → Result Plain ℕ
 bare_at m s = do
   _ ← end_at s
   Ok m
@@ -231,19 +233,19 @@ linear_at s = do
   Ok (linear left.0 rel.0 right.0 priority.0 weight.0, weight.1)
 
 -- what follows the word `constrain`: a group's name and a linear constraint
-unfoldable pub constrain_at : List ℕ → Result Meaning ℕ
+unfoldable pub constrain_at : List ℕ → Result Change ℕ
 constrain_at s = do
   group ← name_at s
   line ← linear_at group.1
   _ ← end_at line.1
-  Ok (mean.Constrain group.0 line.0)
+  Ok (mean.Update (mean.Constrain group.0 line.0))
 
 -- a format of this group with this alignment
-unfoldable pub format_line_at : List ℕ → Option Align → List ℕ → Result Meaning ℕ
-format_line_at n a s = format_at s >>= λ f. Ok (mean.Vfl n a f)
+unfoldable pub format_line_at : List ℕ → Option Align → List ℕ → Result Change ℕ
+format_line_at n a s = format_at s >>= λ f. Ok (mean.Update (mean.Vfl n a f))
 
 -- what follows the word `vfl`: a group's name, perhaps an alignment, and a format
-unfoldable pub vfl_at : List ℕ → Result Meaning ℕ
+unfoldable pub vfl_at : List ℕ → Result Change ℕ
 vfl_at s = do
   group ← name_at s
   if starts is_a group.1
@@ -264,15 +266,15 @@ view_word_at s = do
   Ok ((name.0, word.0), rest)
 
 -- for this attribute of the view of this name a value, and perhaps a priority
-unfoldable pub suggestion_at : List ℕ → AttrWord → Bool → List ℕ → Result Meaning ℕ
+unfoldable pub suggestion_at : List ℕ → AttrWord → Bool → List ℕ → Result Change ℕ
 suggestion_at name word is_negative s = do
   value ← number_at s
   priority ← priority_at value.1
   _ ← end_at priority.1
-  Ok (mean.Suggest name word (decimal is_negative value.0) priority.0)
+  Ok (mean.Update (mean.Suggest name word (decimal is_negative value.0) priority.0))
 
 -- what follows the word `suggest`: an attribute of a view, perhaps -, a value, and perhaps a priority
-unfoldable pub suggest_at : List ℕ → Result Meaning ℕ
+unfoldable pub suggest_at : List ℕ → Result Change ℕ
 suggest_at s = do
   of ← view_word_at s
   if starts is_minus of.1
@@ -282,14 +284,14 @@ suggest_at s = do
       else suggestion_at of.0.0 of.0.1 false of.1
 
 -- what follows the word `release`: an attribute of a view
-unfoldable pub release_at : List ℕ → Result Meaning ℕ
+unfoldable pub release_at : List ℕ → Result Change ℕ
 release_at s = do
   of ← view_word_at s
   _ ← end_at of.1
-  Ok (mean.Release of.0.0 of.0.1)
+  Ok (mean.Leave (mean.Release of.0.0 of.0.1))
 
 -- what follows the word `direction`
-unfoldable pub direction_at : List ℕ → Result Meaning ℕ
+unfoldable pub direction_at : List ℕ → Result Change ℕ
 direction_at s = do
   to ← tried directions s
   rest ← tail_at to.1
@@ -305,15 +307,15 @@ unfoldable pub resist_at : List ℕ → Result (Option Meant × List ℕ) ℕ
 resist_at s = if starts is_r s then word_at (codes "resist") s >>= object_at else Ok (None, s)
 
 -- behind a view's name, width and height: perhaps priorities
-unfoldable pub pulls_at : List ℕ → ℕ → ℕ → List ℕ → Result Meaning ℕ
+unfoldable pub pulls_at : List ℕ → ℕ → ℕ → List ℕ → Result Change ℕ
 pulls_at name width height s = do
   hug ← hug_at s
   resist ← resist_at hug.1
   _ ← end_at resist.1
-  Ok (mean.Size name (decimal false width) (decimal false height) hug.0 resist.0)
+  Ok (mean.Update (mean.Size name (decimal false width) (decimal false height) hug.0 resist.0))
 
 -- what follows the word `size`: a view's name, a width, a height, and perhaps priorities
-unfoldable pub size_at : List ℕ → Result Meaning ℕ
+unfoldable pub size_at : List ℕ → Result Change ℕ
 size_at s = do
   name ← name_at s
   width ← number_at name.1
@@ -321,7 +323,7 @@ size_at s = do
   pulls_at name.0 width.0 height.0 height.1
 
 -- what follows the word `sweep`: the word `width`, and two widths
-unfoldable pub sweep_at : List ℕ → Result Meaning ℕ
+unfoldable pub sweep_at : List ℕ → Result Plain ℕ
 sweep_at s = do
   text ← word_at (codes "width") s
   from ← number_at text
@@ -329,50 +331,57 @@ sweep_at s = do
   _ ← end_at to.1
   Ok (mean.Sweep (decimal false from.0) (decimal false to.0))
 
--- what follows the word of a command in a line of this length
-abbrev pub arguments_at : ℕ → Keyword → List ℕ → Result Meaning ℕ
-arguments_at len key.View s = view_at s
-arguments_at len key.Tree s = tree_at len s
-arguments_at len key.Drop s = named_at mean.Drop s
-arguments_at len key.Metric s = metric_at s
-arguments_at len key.Window s = window_at s
-arguments_at len key.Vfl s = vfl_at s
-arguments_at len key.Constrain s = constrain_at s
-arguments_at len key.Remove s = named_at mean.Remove s
-arguments_at len key.Suggest s = suggest_at s
-arguments_at len key.Release s = release_at s
-arguments_at len key.Undo s = bare_at mean.Undo s
-arguments_at len key.Budget s = budget_at s
-arguments_at len key.Frames s = bare_at mean.Frames s
-arguments_at len key.Rows s = bare_at mean.Rows s
-arguments_at len key.Diagnose s = bare_at mean.Diagnose s
-arguments_at len key.Certify s = bare_at mean.Certify s
-arguments_at len key.Direction s = direction_at s
-arguments_at len key.Size s = size_at s
-arguments_at len key.Unsize s = named_at mean.Unsize s
-arguments_at len key.Keep s = named_at mean.Keep s
-arguments_at len key.Sweep s = sweep_at s
+-- what follows the word of a change in a line of this length
+abbrev pub change_at : ℕ → ChangeWord → List ℕ → Result Change ℕ
+change_at len change.View s = view_at s
+change_at len change.Tree s = tree_at len s
+change_at len change.Metric s = metric_at s
+change_at len change.Window s = window_at s
+change_at len change.Vfl s = vfl_at s
+change_at len change.Constrain s = constrain_at s
+change_at len change.Suggest s = suggest_at s
+change_at len change.Size s = size_at s
+change_at len change.Drop s = named_at (λ n. mean.Leave (mean.Drop n)) s
+change_at len change.Remove s = named_at (λ n. mean.Leave (mean.Remove n)) s
+change_at len change.Release s = release_at s
+change_at len change.Unsize s = named_at (λ n. mean.Leave (mean.Unsize n)) s
+change_at len change.Direction s = direction_at s
+change_at len change.Keep s = named_at mean.Keep s
+
+-- what follows the word of another command
+abbrev pub plain_at : PlainWord → List ℕ → Result Plain ℕ
+plain_at plain.Undo s = bare_at mean.Undo s
+plain_at plain.Budget s = budget_at s
+plain_at plain.Frames s = bare_at mean.Frames s
+plain_at plain.Rows s = bare_at mean.Rows s
+plain_at plain.Diagnose s = bare_at mean.Diagnose s
+plain_at plain.Certify s = bare_at mean.Certify s
+plain_at plain.Sweep s = sweep_at s
 
 -- the text behind the first word and the spaces that follow it
 unfoldable pub apart_at : List ℕ → Result (List ℕ) ℕ
 apart_at [] = Ok []
 apart_at (b ∷ s) = if is_space b then Ok (skip (b ∷ s)) else Err (length (b ∷ s))
 
--- a command's word as the first of a line
-abbrev pub as_first : Result (Keyword × List ℕ) ℕ → Result (FirstWord × List ℕ) ℕ
-as_first (Ok r) = Ok (first.Command r.0, r.1)
-as_first (Err m) = Err m
+-- the first word of a line: that of a change, if there is one, or else of another command; if there is
+-- neither, the reading that came further
+abbrev pub as_first : Result (ChangeWord × List ℕ) ℕ → Result (PlainWord × List ℕ) ℕ
+    → Result (FirstWord × List ℕ) ℕ
+as_first (Ok c) r = Ok (first.Change c.0, c.1)
+as_first (Err m) (Ok p) = Ok (first.Plain p.0, p.1)
+as_first (Err m) (Err n) = Err (min m n)
 
--- behind `why` in a line of this length: a command that makes a change
-unfoldable pub changing_at : ℕ → List ℕ → Result Meaning ℕ
+-- after `why` in a line of this length: a change
+unfoldable pub changing_at : ℕ → List ℕ → Result Change ℕ
 changing_at len s = do
   word ← tried changing_words s
   rest ← apart_at word.1
-  arguments_at len word.0 rest
+  change_at len word.0 rest
 
 -- what follows the first word of a line of this length
 abbrev pub follows_at : ℕ → FirstWord → List ℕ → Result Said ℕ
-follows_at len (first.Command k) s = arguments_at len k s >>= λ m. Ok (mean.Does m)
+follows_at len (first.Change k) s = change_at len k s >>= λ m. Ok (does_change m)
+follows_at len (first.Plain k) s = plain_at k s >>= λ m. Ok (does_plain m)
 follows_at len first.Why s = changing_at len s >>= λ m. Ok (mean.Why m)
 
 -- in a line of this length, one of these first words, and what follows it
@@ -387,12 +396,12 @@ unfoldable pub content_at : List (List ℕ × FirstWord) → ℕ → List ℕ �
 content_at words len s = if starts is_hash s
     then (do
       _ ← lit_at (codes "#") s
-      Ok says_nothing)
+      Ok mean.Nothing)
     else (if starts is_any s
     then said_at words len s
     else (do
       _ ← end_at s
-      Ok says_nothing))
+      Ok mean.Nothing))
 
 -- what a line says, or how many of its bytes are left where the reading ends
 unfoldable pub line_at : List (List ℕ × FirstWord) → List ℕ → Result Said ℕ

@@ -112,25 +112,24 @@ impl<'a> Linear<'a> {
     }
 }
 
-/// A command. Each name is a slice of its line.
+/// Views that come. Each name is a slice of its line, here and below.
 #[derive(Drop)]
-pub enum Command<'a> {
-    /// A blank line or a comment.
-    Nothing,
-    /// A view, and the view that it is to stand in.
+pub enum Coming<'a> {
+    /// A view, and its parent. If no parent is written, the window is the parent.
     View {
         name: &'a str,
         parent: Option<&'a str>,
     },
-    /// A tree of views: its text, which isn't read, and the offset at which that begins in the line.
+    /// A tree of views: its text, which isn't read here, and the offset of that text in the line.
     Tree {
         text: &'a [u8],
         start: usize,
     },
-    /// A view that is to leave, with all below it.
-    Drop {
-        name: &'a str,
-    },
+}
+
+/// A metric, a size, a line or a suggestion that is new or gets another value.
+#[derive(Drop)]
+pub enum Updating<'a> {
     Metric {
         name: &'a str,
         value: Frac,
@@ -149,39 +148,15 @@ pub enum Command<'a> {
         group: &'a str,
         line: Linear<'a>,
     },
-    /// A group whose lines are to leave.
-    Remove {
-        group: &'a str,
-    },
-    /// An attribute of the view of this name is to have this value, as far as its priority lets it.
+    /// The attribute of this view gets this value, as far as the priority lets it.
     Suggest {
         view: &'a str,
         word: AttrWord,
         value: Frac,
         priority: Option<Object<'a>>,
     },
-    /// A suggestion that is to leave.
-    Release {
-        view: &'a str,
-        word: AttrWord,
-    },
-    /// The scene before the latest change is to stand again.
-    Undo,
-    Budget {
-        exchanges: u64,
-    },
-    Frames,
-    Rows,
-    /// What the values leave unmet or undecided is to be told.
-    Diagnose,
-    /// The values and what shows that they are the best are to be told.
-    Certify,
-    /// Lines and suggestions that come are meant in this direction.
-    Direction {
-        to: Direction,
-    },
-    /// A view would like to have this size. How hard it hugs is the priority of not being larger, how hard it
-    /// resists that of not being smaller.
+    /// The size that a view would like to have. It hugs at the priority of not being larger, and resists at
+    /// the priority of not being smaller.
     Size {
         name: &'a str,
         width: Frac,
@@ -189,25 +164,63 @@ pub enum Command<'a> {
         hug: Option<Object<'a>>,
         resist: Option<Object<'a>>,
     },
-    /// A size that is to leave.
-    Unsize {
-        name: &'a str,
-    },
-    /// A view that is to stay where it is before all others, where a row moves one of them.
-    Keep {
-        name: &'a str,
-    },
-    /// What is best for all widths of the window from the one to the other is to be told.
-    Sweep {
-        from: Frac,
-        to: Frac,
-    },
 }
 
-/// The reading of a line: a command, or a command that makes a change, of which it is asked why it would
-/// clash.
+/// What leaves the scene.
+#[derive(Clone, Copy)]
+pub enum Leaving<'a> {
+    /// A view, with all below it.
+    Drop { name: &'a str },
+    /// The lines of a group.
+    Remove { group: &'a str },
+    /// The suggestion for an attribute of the view.
+    Release { view: &'a str, word: AttrWord },
+    /// The size that a view would like to have.
+    Unsize { name: &'a str },
+}
+
+/// A command that asks for another scene. `why` may precede these commands and no other.
+#[derive(Drop)]
+pub enum Change<'a> {
+    Views(Coming<'a>),
+    Update(Updating<'a>),
+    Leave(Leaving<'a>),
+    /// Later lines and suggestions have this direction.
+    Turn { to: Direction },
+    /// This view stays where it is before all others, if a row moves one of them.
+    Keep { name: &'a str },
+}
+
+/// Any other command: it goes back, sets the budget, or asks what holds in the scene.
+#[derive(Clone, Copy)]
+pub enum Plain {
+    /// Go back to the scene before the latest change.
+    Undo,
+    /// The greatest number of exchanges of each later run.
+    Budget { exchanges: u64 },
+    Frames,
+    Rows,
+    /// Which lines the values leave unmet, and which values are undecided.
+    Diagnose,
+    /// The values, and what shows that they are the best.
+    Certify,
+    /// The best values for each width of the window between these.
+    Sweep { from: Frac, to: Frac },
+}
+
+/// A command.
+#[derive(Drop)]
+pub enum Command<'a> {
+    Change(Change<'a>),
+    Plain(Plain),
+}
+
+/// The reading of a line.
 #[derive(Drop)]
 pub enum Reading<'a> {
+    /// A blank line or a comment.
+    Nothing,
     Command(Command<'a>),
-    Why(Command<'a>),
+    /// The question why this change would clash.
+    Why(Change<'a>),
 }

@@ -33,15 +33,18 @@
 //! why CHANGE
 //! ```
 //!
-//! A change is a command down to `release` in the first list, or down to `keep` in the second. Its line
-//! stands behind `why` as it stands alone ([`Reading`]).
+//! A [`Change`] is a command down to `release` in the first list, or down to `keep` in the second: it asks
+//! for another scene. Every other command is [`Plain`]. `why` may precede a change, and no other command; the
+//! change is written as it is alone ([`Reading`]).
 //!
-//! [`read_line_in`] gives the one reading of a line of a version, whose names are slices of it, or the place
-//! where it leaves the grammar; [`read_line`] is its case of version 1:
+//! [`read_line_in`] gives the one reading of a line of a version, whose names are slices of the line, or the
+//! offset at which the line leaves the grammar:
 //!
 //! ```
-//! read_line(alloc, b"metric gap 8")?            // Reading::Command: a metric of the name `gap`, the value 8
-//! read_line(alloc, b"metric gap")               // Stop::Refused(SyntaxAt(10)): all 10 bytes begin some line
+//! read_line_in(alloc, b"metric gap 8", Version::One)?
+//!     // Reading::Command(Command::Change(Change::Update(Updating::Metric { name: "gap", value: 8 })))
+//! read_line_in(alloc, b"metric gap", Version::One)
+//!     // Stop::Refused(SyntaxAt(10)): all 10 bytes begin some line
 //! ```
 //!
 //! An expression is a sum of terms with `+` and `-` between them and perhaps `-` in front. A term is a
@@ -82,9 +85,11 @@ mod terms;
 mod versions;
 mod words;
 
-pub use command::{Command, ExprTerm, Linear, Operand, Reading};
+pub use command::{
+    Change, Coming, Command, ExprTerm, Leaving, Linear, Operand, Plain, Reading, Updating,
+};
 pub use fractions::signed_number;
 pub use laws::{line_reads_or_leaves, offset_is_unique, reading_is_unique};
-pub use lines::{read_line, read_line_in};
+pub use lines::read_line_in;
 pub use versions::is_version_line;
 pub use words::{Align, AttrWord, Direction, Version};

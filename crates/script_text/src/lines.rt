@@ -2,108 +2,108 @@
 ghost use Rattle.std.specs.Prelude.{◌≡◌, IfErr, IfOk};
 ghost use Rattle.span_text.specs.GivesOrMemory.{GivesOrMemory};
 ghost use Rattle.script_text.specs.Grammar.{Line, words_of};
-ghost use Rattle.script_text.specs.declared.words.Version.TheVariants as version_type;
 ghost use Rattle.script_text.specs.Meaning.{Said};
 ghost use Rattle.script_text.specs.Meaning as mean;
 ghost use Rattle.script_text.specs.LineReading.{view_at, tree_at, named_at, metric_at, window_at, budget_at};
-ghost use Rattle.script_text.specs.LineReading.{bare_at, apart_at, arguments_at, changing_at, content_at};
-ghost use Rattle.script_text.specs.LineReading.{follows_at, line_at, metric_value_at, said_at, sweep_at};
+ghost use Rattle.script_text.specs.LineReading.{apart_at, bare_at, change_at, changing_at, content_at};
+ghost use Rattle.script_text.specs.LineReading.{follows_at, line_at, metric_value_at, plain_at, said_at};
+ghost use Rattle.script_text.specs.LineReading.{sweep_at};
 ghost use Rattle.span_text.specs.Gives.{Gives};
 ghost use Rattle.vfl_text.specs.Stops.{IsStopOf};
-ghost use Rattle.script_text.specs.View.{reading_view, view};
+ghost use Rattle.script_text.specs.View.{change_view, plain_view, reading_view};
 
-use crate::command::{Command, Reading};
+use crate::command::{Change, Coming, Command, Leaving, Plain, Reading, Updating};
 use crate::constraint::constrain;
 use crate::directions::direction;
 use crate::formats::vfl;
 use crate::fractions::signed_number;
 use crate::sizes::size;
 use crate::suggestions::{release, suggest};
-use crate::words::{FirstWord, Keyword, Version, changing_word, first_word};
+use crate::words::{ChangeWord, FirstWord, PlainWord, Version, changing_word, first_word};
 use frac_core::Stop;
 use span_text::{PartStop, SyntaxAt, names, numbers, pieces};
 use std::alloc::Global;
 
 #[tactic(auto, unfolding(crate::specs::LineReading::view_at))]
-fn view_line(text: &[u8]) -> Result<Command<'_>, PartStop>
-    ensures { GivesOrMemory view result (view_at text.now) }
+fn view_line(text: &[u8]) -> Result<Change<'_>, PartStop>
+    ensures { GivesOrMemory change_view result (view_at text.now) }
 {
     let (name, text) = names::name(text)?;
     if pieces::begins(text, b'i') {
         let (parent, text) = names::name(names::word(b"in", text)?)?;
         pieces::end(text)?;
         let parent = Some(parent);
-        Ok(Command::View { name, parent })
+        Ok(Change::Views(Coming::View { name, parent }))
     } else {
         pieces::end(text)?;
-        Ok(Command::View { name, parent: None })
+        Ok(Change::Views(Coming::View { name, parent: None }))
     }
 }
 
 // What follows the word `tree` in a line of this length.
 #[tactic(auto, unfolding(crate::specs::LineReading::tree_at))]
-fn tree_line(len: usize, text: &[u8]) -> Result<Command<'_>, PartStop>
-    ensures { GivesOrMemory view result (tree_at len text.now) }
+fn tree_line(len: usize, text: &[u8]) -> Result<Change<'_>, PartStop>
+    ensures { GivesOrMemory change_view result (tree_at len text.now) }
 {
     match text {
         [_, ..] => {
             let start = len.saturating_sub(text.len());
-            Ok(Command::Tree { text, start })
+            Ok(Change::Views(Coming::Tree { text, start }))
         }
         [] => Err(PartStop::Left(0)),
     }
 }
 
 #[tactic(auto, unfolding(crate::specs::LineReading::named_at))]
-fn drop_line(text: &[u8]) -> Result<Command<'_>, PartStop>
-    ensures { GivesOrMemory view result (named_at mean.Drop text.now) }
+fn drop_line(text: &[u8]) -> Result<Change<'_>, PartStop>
+    ensures { GivesOrMemory change_view result (named_at (λ n. mean.Leave (mean.Drop n)) text.now) }
 {
     let (name, text) = names::name(text)?;
     pieces::end(text)?;
-    Ok(Command::Drop { name })
+    Ok(Change::Leave(Leaving::Drop { name }))
 }
 
 #[tactic(auto, unfolding(crate::specs::LineReading::named_at))]
-fn remove_line(text: &[u8]) -> Result<Command<'_>, PartStop>
-    ensures { GivesOrMemory view result (named_at mean.Remove text.now) }
+fn remove_line(text: &[u8]) -> Result<Change<'_>, PartStop>
+    ensures { GivesOrMemory change_view result (named_at (λ n. mean.Leave (mean.Remove n)) text.now) }
 {
     let (group, text) = names::name(text)?;
     pieces::end(text)?;
-    Ok(Command::Remove { group })
+    Ok(Change::Leave(Leaving::Remove { group }))
 }
 
 #[tactic(auto, unfolding(crate::specs::LineReading::named_at))]
-fn unsize_line(text: &[u8]) -> Result<Command<'_>, PartStop>
-    ensures { GivesOrMemory view result (named_at mean.Unsize text.now) }
+fn unsize_line(text: &[u8]) -> Result<Change<'_>, PartStop>
+    ensures { GivesOrMemory change_view result (named_at (λ n. mean.Leave (mean.Unsize n)) text.now) }
 {
     let (name, text) = names::name(text)?;
     pieces::end(text)?;
-    Ok(Command::Unsize { name })
+    Ok(Change::Leave(Leaving::Unsize { name }))
 }
 
 #[tactic(auto, unfolding(crate::specs::LineReading::named_at))]
-fn keep_line(text: &[u8]) -> Result<Command<'_>, PartStop>
-    ensures { GivesOrMemory view result (named_at mean.Keep text.now) }
+fn keep_line(text: &[u8]) -> Result<Change<'_>, PartStop>
+    ensures { GivesOrMemory change_view result (named_at mean.Keep text.now) }
 {
     let (name, text) = names::name(text)?;
     pieces::end(text)?;
-    Ok(Command::Keep { name })
+    Ok(Change::Keep { name })
 }
 
 // The value of the metric of this name.
 #[tactic(auto, unfolding(crate::specs::LineReading::metric_value_at))]
-fn metric_value<'a>(name: &'a str, is_negative: bool, text: &[u8]) -> Result<Command<'a>, PartStop>
-    ensures { GivesOrMemory view result (metric_value_at name.now is_negative text.now) }
+fn metric_value<'a>(name: &'a str, is_negative: bool, text: &[u8]) -> Result<Change<'a>, PartStop>
+    ensures { GivesOrMemory change_view result (metric_value_at name.now is_negative text.now) }
 {
     let (thousandths, text) = numbers::number(text)?;
     pieces::end(text)?;
     let value = signed_number(is_negative, thousandths);
-    Ok(Command::Metric { name, value })
+    Ok(Change::Update(Updating::Metric { name, value }))
 }
 
 #[tactic(auto, unfolding(crate::specs::LineReading::metric_at))]
-fn metric_line(text: &[u8]) -> Result<Command<'_>, PartStop>
-    ensures { GivesOrMemory view result (metric_at text.now) }
+fn metric_line(text: &[u8]) -> Result<Change<'_>, PartStop>
+    ensures { GivesOrMemory change_view result (metric_at text.now) }
 {
     let (name, text) = names::name(text)?;
     if pieces::begins(text, b'-') {
@@ -114,111 +114,112 @@ fn metric_line(text: &[u8]) -> Result<Command<'_>, PartStop>
 }
 
 #[tactic(auto, unfolding(crate::specs::LineReading::window_at))]
-fn window_line(text: &[u8]) -> Result<Command<'_>, PartStop>
-    ensures { GivesOrMemory view result (window_at text.now) }
+fn window_line(text: &[u8]) -> Result<Change<'_>, PartStop>
+    ensures { GivesOrMemory change_view result (window_at text.now) }
 {
     let (width, text) = numbers::number(text)?;
     let (height, text) = numbers::number(text)?;
     pieces::end(text)?;
-    Ok(Command::Window {
-        width: signed_number(false, width),
-        height: signed_number(false, height),
-    })
+    let (width, height) = (signed_number(false, width), signed_number(false, height));
+    Ok(Change::Update(Updating::Window { width, height }))
 }
 
 #[tactic(auto, unfolding(crate::specs::LineReading::sweep_at))]
-fn sweep_line(text: &[u8]) -> Result<Command<'_>, PartStop>
-    ensures { GivesOrMemory view result (sweep_at text.now) }
+fn sweep_line(text: &[u8]) -> Result<Plain, PartStop>
+    ensures { GivesOrMemory plain_view result (sweep_at text.now) }
 {
     let (from, text) = numbers::number(names::word(b"width", text)?)?;
     let (to, text) = numbers::number(text)?;
     pieces::end(text)?;
-    Ok(Command::Sweep {
+    Ok(Plain::Sweep {
         from: signed_number(false, from),
         to: signed_number(false, to),
     })
 }
 
 #[tactic(auto, unfolding(crate::specs::LineReading::budget_at))]
-fn budget_line(text: &[u8]) -> Result<Command<'_>, PartStop>
-    ensures { GivesOrMemory view result (budget_at text.now) }
+fn budget_line(text: &[u8]) -> Result<Plain, PartStop>
+    ensures { GivesOrMemory plain_view result (budget_at text.now) }
 {
     let (exchanges, text) = numbers::whole(text)?;
     pieces::end(text)?;
-    Ok(Command::Budget { exchanges })
+    Ok(Plain::Budget { exchanges })
 }
 
 #[tactic(auto, unfolding(crate::specs::LineReading::bare_at))]
-fn undo_line(text: &[u8]) -> Result<Command<'_>, PartStop>
-    ensures { GivesOrMemory view result (bare_at mean.Undo text.now) }
+fn undo_line(text: &[u8]) -> Result<Plain, PartStop>
+    ensures { GivesOrMemory plain_view result (bare_at mean.Undo text.now) }
 {
     pieces::end(text)?;
-    Ok(Command::Undo)
+    Ok(Plain::Undo)
 }
 
 #[tactic(auto, unfolding(crate::specs::LineReading::bare_at))]
-fn frames_line(text: &[u8]) -> Result<Command<'_>, PartStop>
-    ensures { GivesOrMemory view result (bare_at mean.Frames text.now) }
+fn frames_line(text: &[u8]) -> Result<Plain, PartStop>
+    ensures { GivesOrMemory plain_view result (bare_at mean.Frames text.now) }
 {
     pieces::end(text)?;
-    Ok(Command::Frames)
+    Ok(Plain::Frames)
 }
 
 #[tactic(auto, unfolding(crate::specs::LineReading::bare_at))]
-fn rows_line(text: &[u8]) -> Result<Command<'_>, PartStop>
-    ensures { GivesOrMemory view result (bare_at mean.Rows text.now) }
+fn rows_line(text: &[u8]) -> Result<Plain, PartStop>
+    ensures { GivesOrMemory plain_view result (bare_at mean.Rows text.now) }
 {
     pieces::end(text)?;
-    Ok(Command::Rows)
+    Ok(Plain::Rows)
 }
 
 #[tactic(auto, unfolding(crate::specs::LineReading::bare_at))]
-fn certify_line(text: &[u8]) -> Result<Command<'_>, PartStop>
-    ensures { GivesOrMemory view result (bare_at mean.Certify text.now) }
+fn certify_line(text: &[u8]) -> Result<Plain, PartStop>
+    ensures { GivesOrMemory plain_view result (bare_at mean.Certify text.now) }
 {
     pieces::end(text)?;
-    Ok(Command::Certify)
+    Ok(Plain::Certify)
 }
 
 #[tactic(auto, unfolding(crate::specs::LineReading::bare_at))]
-fn diagnose_line(text: &[u8]) -> Result<Command<'_>, PartStop>
-    ensures { GivesOrMemory view result (bare_at mean.Diagnose text.now) }
+fn diagnose_line(text: &[u8]) -> Result<Plain, PartStop>
+    ensures { GivesOrMemory plain_view result (bare_at mean.Diagnose text.now) }
 {
     pieces::end(text)?;
-    Ok(Command::Diagnose)
+    Ok(Plain::Diagnose)
 }
 
-// What follows the word of a command in a line of this length.
-fn arguments(
-    alloc: Global,
-    len: usize,
-    keyword: Keyword,
-    text: &[u8],
-) -> Result<Command<'_>, PartStop>
-    ensures { GivesOrMemory view result (arguments_at len keyword text.now) }
+// The text after the word of a change, in a line of this length.
+fn change(alloc: Global, len: usize, word: ChangeWord, text: &[u8]) -> Result<Change<'_>, PartStop>
+    ensures { GivesOrMemory change_view result (change_at len word text.now) }
 {
-    match keyword {
-        Keyword::View => view_line(text),
-        Keyword::Tree => tree_line(len, text),
-        Keyword::Drop => drop_line(text),
-        Keyword::Metric => metric_line(text),
-        Keyword::Window => window_line(text),
-        Keyword::Vfl => vfl(alloc, text),
-        Keyword::Constrain => constrain(alloc, text),
-        Keyword::Remove => remove_line(text),
-        Keyword::Suggest => suggest(text),
-        Keyword::Release => release(text),
-        Keyword::Undo => undo_line(text),
-        Keyword::Budget => budget_line(text),
-        Keyword::Frames => frames_line(text),
-        Keyword::Rows => rows_line(text),
-        Keyword::Diagnose => diagnose_line(text),
-        Keyword::Certify => certify_line(text),
-        Keyword::Direction => direction(text),
-        Keyword::Size => size(text),
-        Keyword::Unsize => unsize_line(text),
-        Keyword::Keep => keep_line(text),
-        Keyword::Sweep => sweep_line(text),
+    match word {
+        ChangeWord::View => view_line(text),
+        ChangeWord::Tree => tree_line(len, text),
+        ChangeWord::Metric => metric_line(text),
+        ChangeWord::Window => window_line(text),
+        ChangeWord::Vfl => vfl(alloc, text),
+        ChangeWord::Constrain => constrain(alloc, text),
+        ChangeWord::Suggest => suggest(text),
+        ChangeWord::Size => size(text),
+        ChangeWord::Drop => drop_line(text),
+        ChangeWord::Remove => remove_line(text),
+        ChangeWord::Release => release(text),
+        ChangeWord::Unsize => unsize_line(text),
+        ChangeWord::Direction => direction(text),
+        ChangeWord::Keep => keep_line(text),
+    }
+}
+
+// The text after the word of another command.
+fn plain(word: PlainWord, text: &[u8]) -> Result<Plain, PartStop>
+    ensures { GivesOrMemory plain_view result (plain_at word text.now) }
+{
+    match word {
+        PlainWord::Undo => undo_line(text),
+        PlainWord::Budget => budget_line(text),
+        PlainWord::Frames => frames_line(text),
+        PlainWord::Rows => rows_line(text),
+        PlainWord::Diagnose => diagnose_line(text),
+        PlainWord::Certify => certify_line(text),
+        PlainWord::Sweep => sweep_line(text),
     }
 }
 
@@ -233,14 +234,14 @@ pub(crate) fn apart(text: &[u8]) -> Result<&[u8], usize>
     }
 }
 
-// A command that makes a change, behind the word that asks about it in a line of this length.
+// A change, after `why` in a line of this length.
 #[tactic(auto, unfolding(crate::specs::LineReading::changing_at))]
-fn changing(alloc: Global, len: usize, text: &[u8]) -> Result<Command<'_>, PartStop>
-    ensures { GivesOrMemory view result (changing_at len text.now) }
+fn changing(alloc: Global, len: usize, text: &[u8]) -> Result<Change<'_>, PartStop>
+    ensures { GivesOrMemory change_view result (changing_at len text.now) }
 {
-    let (word, text) = changing_word(text)?;
+    let (keyword, text) = changing_word(text)?;
     let text = apart(text)?;
-    arguments(alloc, len, word, text)
+    change(alloc, len, keyword, text)
 }
 
 // What follows the first word of a line of this length.
@@ -248,9 +249,11 @@ fn follows(alloc: Global, len: usize, word: FirstWord, text: &[u8]) -> Result<Re
     ensures { GivesOrMemory reading_view result (follows_at len word text.now) }
 {
     match word {
-        FirstWord::Command(keyword) => {
-            Ok(Reading::Command(arguments(alloc, len, keyword, text)?))
+        FirstWord::Change(word) => {
+            let change = change(alloc, len, word, text)?;
+            Ok(Reading::Command(Command::Change(change)))
         }
+        FirstWord::Plain(word) => Ok(Reading::Command(Command::Plain(plain(word, text)?))),
         FirstWord::Why => Ok(Reading::Why(changing(alloc, len, text)?)),
     }
 }
@@ -277,11 +280,11 @@ fn content(
 {
     if pieces::begins(text, b'#') {
         pieces::literal(b"#", text)?;
-        return Ok(Reading::Command(Command::Nothing));
+        return Ok(Reading::Nothing);
     }
     if text.is_empty() {
         pieces::end(text)?;
-        Ok(Reading::Command(Command::Nothing))
+        Ok(Reading::Nothing)
     } else {
         said(alloc, len, text, version)
     }
@@ -313,15 +316,4 @@ pub fn read_line_in(
         Err(PartStop::Left(left)) => Err(Stop::Refused(SyntaxAt(line.len() - left))),
         Err(PartStop::OutOfMemory) => Err(Stop::OutOfMemory),
     }
-}
-
-/// The one reading of a line of version 1.
-pub fn read_line(alloc: Global, line: &[u8]) -> Result<Reading<'_>, Stop<SyntaxAt>>
-    ensures sound { IfOk result
-        (λ reading. Line (words_of version_type.One) line.now (reading_view reading)) }
-    ensures one { (said : Said) → Line (words_of version_type.One) line.now said
-        → IfOk result (λ reading. reading_view reading ≡ said) }
-    ensures offset { IfErr result (IsStopOf (Line (words_of version_type.One)) line.now) }
-{
-    read_line_in(alloc, line, Version::One)
 }

@@ -3,9 +3,9 @@ ghost use Rattle.span_text.specs.Gives.{Gives};
 ghost use Rattle.span_text.specs.GivesOrMemory.{GivesOrMemory};
 ghost use Rattle.span_text.specs.Objects.{object_view};
 ghost use Rattle.script_text.specs.LineReading.{hug_at, pulls_at, resist_at, size_at};
-ghost use Rattle.script_text.specs.View.{view};
+ghost use Rattle.script_text.specs.View.{change_view};
 
-use crate::command::Command;
+use crate::command::{Change, Updating};
 use crate::constraint::object;
 use crate::fractions::signed_number;
 use span_text::{Object, PartStop, names, numbers, pieces};
@@ -36,30 +36,25 @@ fn resist(text: &[u8]) -> Result<(Option<Object<'_>>, &[u8]), usize>
 
 // The priorities behind the name, the width and the height.
 #[tactic(auto, unfolding(crate::specs::LineReading::pulls_at))]
-fn pulls<'a>(
-    name: &'a str,
-    width: u32,
-    height: u32,
-    text: &'a [u8],
-) -> Result<Command<'a>, PartStop>
-    ensures { GivesOrMemory view result (pulls_at name.now width height text.now) }
+fn pulls<'a>(name: &'a str, width: u32, height: u32, text: &'a [u8]) -> Result<Change<'a>, PartStop>
+    ensures { GivesOrMemory change_view result (pulls_at name.now width height text.now) }
 {
     let (hug, text) = hug(text)?;
     let (resist, text) = resist(text)?;
     pieces::end(text)?;
-    Ok(Command::Size {
+    Ok(Change::Update(Updating::Size {
         name,
         width: signed_number(false, width),
         height: signed_number(false, height),
         hug,
         resist,
-    })
+    }))
 }
 
 /// What follows the word `size`.
 #[tactic(auto, unfolding(crate::specs::LineReading::size_at))]
-pub fn size(text: &[u8]) -> Result<Command<'_>, PartStop>
-    ensures { GivesOrMemory view result (size_at text.now) }
+pub fn size(text: &[u8]) -> Result<Change<'_>, PartStop>
+    ensures { GivesOrMemory change_view result (size_at text.now) }
 {
     let (name, text) = names::name(text)?;
     let (width, text) = numbers::number(text)?;

@@ -4,44 +4,51 @@ ghost use Rattle.std.specs.declared.result.Result.{Result};
 ghost use Rattle.span_text.specs.Gives.{Gives};
 ghost use Rattle.span_text.specs.Reading.{tried};
 ghost use Rattle.script_text.specs.Directions.{leading, trailing, turned};
-ghost use Rattle.script_text.specs.Grammar.{alignments, attributes, change_words, changing_words, directions};
-ghost use Rattle.script_text.specs.Grammar.{first_words, new_change_words, new_words, over, plain_words};
+ghost use Rattle.script_text.specs.Grammar.{alignments, all_plain_words, attributes, change_words};
+ghost use Rattle.script_text.specs.Grammar.{changing_words, directions, new_change_words, over, plain_words};
 ghost use Rattle.script_text.specs.Grammar.{word_text, words_of};
 ghost use Rattle.script_text.specs.LineReading.{as_first};
-ghost use Rattle.script_text.specs.declared.words.Keyword as keyword_type;
+ghost use Rattle.script_text.specs.declared.words.ChangeWord as change_type;
+ghost use Rattle.script_text.specs.declared.words.PlainWord as plain_type;
 
 use span_text::pieces::or_else;
 
-/// The word of a command.
+/// The word of a change.
 #[derive(Clone, Copy)]
-pub enum Keyword {
+pub enum ChangeWord {
     View,
     Tree,
-    Drop,
     Metric,
     Window,
     Vfl,
     Constrain,
-    Remove,
     Suggest,
+    Size,
+    Drop,
+    Remove,
     Release,
+    Unsize,
+    Direction,
+    Keep,
+}
+
+/// The word of any other command.
+#[derive(Clone, Copy)]
+pub enum PlainWord {
     Undo,
     Budget,
     Frames,
     Rows,
     Diagnose,
     Certify,
-    Direction,
-    Size,
-    Unsize,
-    Keep,
     Sweep,
 }
 
-/// The first word of a line: that of a command, or the one that asks why a command would clash.
+/// The first word of a line: the word of a command, or `why`, which asks why a change would clash.
 #[derive(Clone, Copy)]
 pub enum FirstWord {
-    Command(Keyword),
+    Change(ChangeWord),
+    Plain(PlainWord),
     Why,
 }
 
@@ -137,93 +144,83 @@ impl AttrWord {
     }
 }
 
-// The word of a command that makes a change, in each version, and the text at once behind it; or what the
-// other words answer.
+// The word of a change of both versions, and the text right after it; or the answer of the other words.
 fn change_word<'a>(
     text: &'a [u8],
-    other: Result<(Keyword, &'a [u8]), usize>,
-) -> Result<(Keyword, &'a [u8]), usize>
-    ensures { (r : Result (keyword_type.Keyword × List ℕ) ℕ) → Gives (λ p. (p.0, p.1.now)) other.entry r
+    other: Result<(ChangeWord, &'a [u8]), usize>,
+) -> Result<(ChangeWord, &'a [u8]), usize>
+    ensures { (r : Result (change_type.ChangeWord × List ℕ) ℕ) → Gives (λ p. (p.0, p.1.now)) other.entry r
         → Gives (λ p. (p.0, p.1.now)) result (over change_words text.now r) }
 {
-    let found = or_else(b"release", Keyword::Release, text, other);
-    let found = or_else(b"suggest", Keyword::Suggest, text, found);
-    let found = or_else(b"remove", Keyword::Remove, text, found);
-    let found = or_else(b"constrain", Keyword::Constrain, text, found);
-    let found = or_else(b"vfl", Keyword::Vfl, text, found);
-    let found = or_else(b"window", Keyword::Window, text, found);
-    let found = or_else(b"metric", Keyword::Metric, text, found);
-    let found = or_else(b"drop", Keyword::Drop, text, found);
-    let found = or_else(b"tree", Keyword::Tree, text, found);
-    or_else(b"view", Keyword::View, text, found)
+    let found = or_else(b"release", ChangeWord::Release, text, other);
+    let found = or_else(b"suggest", ChangeWord::Suggest, text, found);
+    let found = or_else(b"remove", ChangeWord::Remove, text, found);
+    let found = or_else(b"constrain", ChangeWord::Constrain, text, found);
+    let found = or_else(b"vfl", ChangeWord::Vfl, text, found);
+    let found = or_else(b"window", ChangeWord::Window, text, found);
+    let found = or_else(b"metric", ChangeWord::Metric, text, found);
+    let found = or_else(b"drop", ChangeWord::Drop, text, found);
+    let found = or_else(b"tree", ChangeWord::Tree, text, found);
+    or_else(b"view", ChangeWord::View, text, found)
 }
 
-// The word of another command of each version, and the text at once behind it; or what the other words
-// answer.
-fn plain_word<'a>(
-    text: &'a [u8],
-    other: Result<(Keyword, &'a [u8]), usize>,
-) -> Result<(Keyword, &'a [u8]), usize>
-    ensures { (r : Result (keyword_type.Keyword × List ℕ) ℕ) → Gives (λ p. (p.0, p.1.now)) other.entry r
-        → Gives (λ p. (p.0, p.1.now)) result (over plain_words text.now r) }
+// The word of a change that only version 2 has, and the text right after it.
+fn new_change_word(text: &[u8]) -> Result<(ChangeWord, &[u8]), usize>
+    ensures { Gives (λ p. (p.0, p.1.now)) result (tried new_change_words text.now) }
 {
-    let found = or_else(b"certify", Keyword::Certify, text, other);
-    let found = or_else(b"diagnose", Keyword::Diagnose, text, found);
-    let found = or_else(b"rows", Keyword::Rows, text, found);
-    let found = or_else(b"frames", Keyword::Frames, text, found);
-    let found = or_else(b"budget", Keyword::Budget, text, found);
-    or_else(b"undo", Keyword::Undo, text, found)
+    let found = or_else(b"keep", ChangeWord::Keep, text, Err(text.len()));
+    let found = or_else(b"unsize", ChangeWord::Unsize, text, found);
+    let found = or_else(b"size", ChangeWord::Size, text, found);
+    or_else(b"direction", ChangeWord::Direction, text, found)
 }
 
-// The word of a command that makes a change, of those that version 2 has besides, and the text at once behind
-// it; or what the other words answer.
-fn new_change_word<'a>(
-    text: &'a [u8],
-    other: Result<(Keyword, &'a [u8]), usize>,
-) -> Result<(Keyword, &'a [u8]), usize>
-    ensures { (r : Result (keyword_type.Keyword × List ℕ) ℕ) → Gives (λ p. (p.0, p.1.now)) other.entry r
-        → Gives (λ p. (p.0, p.1.now)) result (over new_change_words text.now r) }
-{
-    let found = or_else(b"keep", Keyword::Keep, text, other);
-    let found = or_else(b"unsize", Keyword::Unsize, text, found);
-    let found = or_else(b"size", Keyword::Size, text, found);
-    or_else(b"direction", Keyword::Direction, text, found)
-}
-
-// The word of a command that version 2 has besides, and the text at once behind it.
-fn new_word(text: &[u8]) -> Result<(Keyword, &[u8]), usize>
-    ensures { Gives (λ p. (p.0, p.1.now)) result (tried new_words text.now) }
-{
-    let found = or_else(b"sweep", Keyword::Sweep, text, Err(text.len()));
-    new_change_word(text, found)
-}
-
-/// The word of a command of version 2 that makes a change, and the text at once behind it.
-pub fn changing_word(text: &[u8]) -> Result<(Keyword, &[u8]), usize>
+/// The word of a change of version 2, and the text right after it.
+pub fn changing_word(text: &[u8]) -> Result<(ChangeWord, &[u8]), usize>
     ensures { Gives (λ p. (p.0, p.1.now)) result (tried changing_words text.now) }
 {
-    change_word(text, new_change_word(text, Err(text.len())))
+    change_word(text, new_change_word(text))
 }
 
-// The word of a command of version 1, and the text at once behind it; or what the other words answer.
-fn old_word<'a>(
+// The word of another command of both versions, and the text right after it; or the answer of the other
+// words.
+fn plain_word<'a>(
     text: &'a [u8],
-    other: Result<(Keyword, &'a [u8]), usize>,
-) -> Result<(Keyword, &'a [u8]), usize>
-    ensures { (r : Result (keyword_type.Keyword × List ℕ) ℕ) → Gives (λ p. (p.0, p.1.now)) other.entry r
-        → Gives (λ p. (p.0, p.1.now)) result (over first_words text.now r) }
+    other: Result<(PlainWord, &'a [u8]), usize>,
+) -> Result<(PlainWord, &'a [u8]), usize>
+    ensures { (r : Result (plain_type.PlainWord × List ℕ) ℕ) → Gives (λ p. (p.0, p.1.now)) other.entry r
+        → Gives (λ p. (p.0, p.1.now)) result (over plain_words text.now r) }
 {
-    change_word(text, plain_word(text, other))
+    let found = or_else(b"certify", PlainWord::Certify, text, other);
+    let found = or_else(b"diagnose", PlainWord::Diagnose, text, found);
+    let found = or_else(b"rows", PlainWord::Rows, text, found);
+    let found = or_else(b"frames", PlainWord::Frames, text, found);
+    let found = or_else(b"budget", PlainWord::Budget, text, found);
+    or_else(b"undo", PlainWord::Undo, text, found)
 }
 
-// A command's word as the first of a line.
-fn first_of<'a>(command: Result<(Keyword, &'a [u8]), usize>) -> Result<(FirstWord, &'a [u8]), usize>
-    ensures { (r : Result (keyword_type.Keyword × List ℕ) ℕ) → Gives (λ p. (p.0, p.1.now)) command.entry r
-        → Gives (λ p. (p.0, p.1.now)) result (as_first r) }
+// The word of another command of version 2, and the text right after it.
+fn any_plain_word(text: &[u8]) -> Result<(PlainWord, &[u8]), usize>
+    ensures { Gives (λ p. (p.0, p.1.now)) result (tried all_plain_words text.now) }
 {
-    match command {
-        Ok((word, rest)) => Ok((FirstWord::Command(word), rest)),
-        Err(left) => Err(left),
+    let found = or_else(b"sweep", PlainWord::Sweep, text, Err(text.len()));
+    plain_word(text, found)
+}
+
+// The first word of a line: the word of a change if there is one, or else the word of another command.
+fn first_of<'a>(
+    change: Result<(ChangeWord, &'a [u8]), usize>,
+    plain: Result<(PlainWord, &'a [u8]), usize>,
+) -> Result<(FirstWord, &'a [u8]), usize>
+    ensures { (r : Result (change_type.ChangeWord × List ℕ) ℕ) → Gives (λ p. (p.0, p.1.now)) change.entry r
+        → (q : Result (plain_type.PlainWord × List ℕ) ℕ) → Gives (λ p. (p.0, p.1.now)) plain.entry q
+        → Gives (λ p. (p.0, p.1.now)) result (as_first r q) }
+{
+    match change {
+        Ok((word, rest)) => Ok((FirstWord::Change(word), rest)),
+        Err(left) => match plain {
+            Ok((word, rest)) => Ok((FirstWord::Plain(word), rest)),
+            Err(less) => Err(left.min(less)),
+        },
     }
 }
 
@@ -232,9 +229,12 @@ pub fn first_word(text: &[u8], version: Version) -> Result<(FirstWord, &[u8]), u
     ensures { Gives (λ p. (p.0, p.1.now)) result (tried (words_of version) text.now) }
 {
     match version {
-        Version::One => first_of(old_word(text, Err(text.len()))),
+        Version::One => {
+            let change = change_word(text, Err(text.len()));
+            first_of(change, plain_word(text, Err(text.len())))
+        }
         Version::Two => {
-            let command = first_of(old_word(text, new_word(text)));
+            let command = first_of(changing_word(text), any_plain_word(text));
             or_else(b"why", FirstWord::Why, text, command)
         }
     }

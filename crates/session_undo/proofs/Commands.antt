@@ -3,9 +3,11 @@ pub mod Carried
 pub mod Chains
 pub mod Diagnosed
 pub mod Drafts
+pub mod Ends
 pub mod Explained
 pub mod LeavingSteps
 pub mod LineStops
+pub mod Resolved
 pub mod Rooms
 pub mod SizeSteps
 pub mod Steps

@@ -1,7 +1,9 @@
 -- Parts of the steps.
-use Rattle.std.specs.Prelude.{◌≡◌, ◌≢◌, ◌⊎◌, ℕ, ◌*◌, ◌<◌, ◌≤◌, false, List, [], length, Some, All}
+use Rattle.std.specs.Prelude.{◌≡◌, ◌≢◌, ◌⊎◌, ℕ, ◌*◌, ◌<◌, ◌≤◌, List, [], length, Some, All}
 use Rattle.std.specs.Prelude.{IsSome, None, Option}
 use Rattle.span_text.specs.Objects.{Meant}
+use Rattle.script_text.specs.Meaning.{Command}
+use Rattle.script_text.specs.Meaning as mean
 use Rattle.script_text.specs.declared.words.AttrWord.{AttrWord}
 use Rattle.name_tables.specs.declared.stops.LimitWord.{LimitWord}
 use Rattle.view_tree.specs.Views.{ViewTree, LiveView, view_named}
@@ -23,72 +25,69 @@ use Rattle.constraint_compile.specs.Suggestions.{scale_of, suggested_priority}
 use Rattle.constraint_compile.specs.declared.suggestion.Suggestion.{Suggestion}
 use Rattle.name_tables.specs.declared.stops.TheConstants.{NAME_LIMIT}
 use Rattle.held_items.specs.declared.item.intrinsic.IntrinsicSize.{IntrinsicSize}
-use Rattle.held_items.specs.declared.item.intrinsic.NewIntrinsic.{NewIntrinsic}
-use Rattle.held_items.specs.declared.item.intrinsic.NewIntrinsic.TheVariants as wished
-use Rattle.held_items.specs.declared.item.suggesting.NewSuggestion.{NewSuggestion}
+use Rattle.session_undo.specs.declared.wishes.NewIntrinsic.{NewIntrinsic}
+use Rattle.session_undo.specs.declared.wishes.NewIntrinsic.TheVariants as wished
+use Rattle.session_undo.specs.declared.wishes.NewSuggestion.{NewSuggestion}
 use Rattle.session_undo.specs.declared.changes.Ranks.{Ranks}
 use Rattle.compile_parts.specs.declared.stops.CompileStop.{CompileStop}
-use Rattle.cert_core.specs.declared.stops.RunStop.{RunStop}
 use Rattle.layout_solver.specs.declared.engine.Change.{Change}
 use Rattle.std.specs.declared.result.Result.{Result}
 use Rattle.std.specs.declared.result.Result.TheVariants.{Ok, Err}
 use Rattle.session_undo.specs.declared.reply.StopPlace.{StopPlace}
-use Rattle.layout_solver.specs.declared.removing.RemoveStop.{RemoveStop}
+use Rattle.layout_solver.specs.declared.request.RequestStop.{RequestStop}
 use Rattle.session_undo.specs.declared.reply.Refusal.{Refusal}
-use Rattle.held_items.specs.declared.row_numbers.TheConstants.{INTRINSIC_ROWS, SIZE_ROWS, VIEW_ROWS}
+use Rattle.held_items.specs.declared.row_numbers.TheConstants.{INTRINSIC_ROWS, VIEW_ROWS}
 use Rattle.held_items.specs.Attributes.{IsNextLine}
-use Rattle.held_items.specs.Items.{has_size, intrinsic_of, suggestion_of}
+use Rattle.held_items.specs.Items.{OfLine, intrinsic_of, suggestion_of}
+use Rattle.held_items.specs.Kept.{item_of}
+use Rattle.held_items.specs.declared.item.new_item.NewItem.{NewItem}
 use Rattle.scenes.specs.Moving.{AreChangesFor}
 use Rattle.session_undo.specs.Replies.{Reply, Unknown, Taken, Limit, Kind, place_of}
 use Rattle.session_undo.specs.State.{State}
 use Rattle.session_undo.specs.Machine.{still_place, Unless, Keeps, IsCrowded, HasAllLines, IsTaken, IsDeep}
-use Rattle.session_undo.specs.Machine.{AreKnownPulls, AreTooMany, HasAllViews, Sizes, Suggests}
+use Rattle.session_undo.specs.Machine.{AreKnownPulls, AreTooMany, HasAllViews, Sizes, Suggests, Tried}
+use Rattle.session_undo.specs.Machine.{TriedPlain}
 use Rattle.session_undo.specs.Machine.{UnlessPullsRankless, UnlessRankless, hugging, intrinsic_at, resisting}
-use Rattle.held_items.specs.Moving.{FitsAfter, IsFarSize}
+use Rattle.held_items.specs.Moving.{FitsAfter}
 use Rattle.name_tables.specs.declared.stops.LimitWord.TheVariants as word
 use Rattle.view_tree.specs.Views as tree
-use Rattle.held_items.specs.declared.item.suggesting.NewSuggestion.TheVariants as new
+use Rattle.session_undo.specs.declared.wishes.NewSuggestion.TheVariants as new
 use Rattle.compile_parts.specs.declared.stops.CompileStop.TheVariants as stop
-use Rattle.cert_core.specs.declared.stops.RunStop.TheVariants as run
 use Rattle.session_undo.specs.declared.reply.Reply as answer
 use Rattle.session_undo.specs.declared.reply.Reply.TheVariants as good
 use Rattle.session_undo.specs.declared.reply.StopPlace.TheVariants as place
-use Rattle.layout_solver.specs.declared.removing.RemoveStop.TheVariants as removal
+use Rattle.layout_solver.specs.declared.request.RequestStop.TheVariants as request
 use Rattle.session_undo.specs.declared.reply.Refusal.TheVariants as refusal
 
 -- ---- stops
 
--- the refusal for what stops an engine
-abbrev pub refusal_of : RunStop → Refusal
-refusal_of (run.Conflict by) = refusal.Conflict by
-refusal_of (run.Unfit at) = refusal.Overflow place.Step at
-refusal_of (run.Spent path) = refusal.Spent place.Step path
-refusal_of run.OutOfMemory = refusal.OutOfMemory
-
--- the answer to what a run comes to
-abbrev pub answer_of : Result (Unit {0}) RunStop → Result answer.Reply Refusal
-answer_of (Ok done) = Ok good.Done
-answer_of (Err stop) = Err (refusal_of stop)
-
--- the refusal tells what stops a removal
-abbrev pub TellsStop : RemoveStop → Refusal → Type 0
-TellsStop (removal.Unfit still at) told =
+-- the refusal tells what stops a step of the scene
+abbrev pub TellsStop : RequestStop → Refusal → Type 0
+TellsStop (request.Conflict by) told = told ≡ refusal.Conflict by
+TellsStop (request.Unfit still at) told =
     (where_ : StopPlace) × (place_of where_ ≡ still_place still.items) × (told ≡ refusal.Overflow where_ at)
-TellsStop (removal.Spent path) told = told ≡ refusal.Spent place.Step path
-TellsStop removal.OutOfMemory told = told ≡ refusal.OutOfMemory
+TellsStop (request.Spent path) told = told ≡ refusal.Spent place.Step path
+TellsStop request.OutOfMemory told = told ≡ refusal.OutOfMemory
 
--- the answer to what a removal comes to
-abbrev pub IsLeftAnswer : Result (Unit {0}) RemoveStop → Result answer.Reply Refusal → Type 0
-IsLeftAnswer (Ok done) told = told ≡ Ok good.Done
-IsLeftAnswer (Err stop) told = (refused : Refusal) × (told ≡ Err refused) × TellsStop stop refused
+-- the answer to what a step of the scene comes to
+abbrev pub IsAnswerOf : Result (Unit {0}) RequestStop → Result answer.Reply Refusal → Type 0
+IsAnswerOf (Ok done) told = told ≡ Ok good.Done
+IsAnswerOf (Err stop) told = (refused : Refusal) × (told ≡ Err refused) × TellsStop stop refused
+
+-- ---- causes
 
 -- no draft comes to its end
 abbrev pub NoEnd : Scene → Reply → State → Type 0
 NoEnd draft reply new = ⊥
 
--- no command without a draft does
-abbrev pub NoOther : Reply → State → Reply → State → Type 0
-NoOther answer next reply new = ⊥
+-- no answer is given
+abbrev pub NoAnswer : Reply → State → Type 0
+NoAnswer reply new = ⊥
+
+-- a cause is against the command
+abbrev pub IsRefused : State → Command → Reply → State → Type 0
+IsRefused old (mean.Changes c) = Tried old c NoEnd
+IsRefused old (mean.Other c) = TriedPlain old c NoAnswer
 
 -- ---- no cause is there
 
@@ -152,11 +151,6 @@ pub record IsFreeMetric (old : State) (name : List ℕ) (value : Fraction) (new 
   pub room : AreTooMany old.scene.metrics name → ⊥
   pub new_is : new ≡ metrics_with old.scene.metrics name value
   pub changes : AreChangesFor old.scene new to
-
--- there is room for this size of the window
-pub record IsFreeSize (old : State) (width height : Fraction) : Type 0 where
-  pub room : (has_size old.scene.held ≡ false) × IsCrowded old SIZE_ROWS → ⊥
-  pub near : IsFarSize old.scene.held width height → ⊥
 
 -- the view of this name is not the window, and these go with it
 pub record IsGoing (scene : Scene) (name gone : List ℕ) : Type 0 where
@@ -322,14 +316,17 @@ IsLineLimit old group count limit =
 abbrev pub IsLineFree : State → List ℕ → ℕ → Type 0
 IsLineFree old group count = IsGroupFree old group × (IsCrowded old count → ⊥)
 
--- the line of this group, whose name is kept, has these rows, for which there is room
-pub record IsFreeLine (old : State) (group kept : List ℕ) (line : CompiledLine)
-    (rows : List Row) : Type 0 where
-  pub name : kept ≡ group
+-- the line of this group has these rows, for which there is room
+pub record IsFreeLine (old : State) (group : List ℕ) (line : CompiledLine) (rows : List Row) : Type 0 where
   pub are_rows : AreRowsNow old.scene.metrics line.rows rows
   pub each : All IsRow rows
   pub next : IsNextLine old.scene.tree.views old.scene.next_row line
   pub free : IsLineFree old group (length line.rows)
+
+-- the item is that line, with its rows
+pub record IsNewLine (old : State) (group : List ℕ) (line : CompiledLine) (new : NewItem) : Type 0 where
+  pub item : item_of new.item ≡ OfLine group line
+  pub free : IsFreeLine old group line new.rows.items
 
 -- a line of so many rows that stops the compiler
 abbrev pub StopStep : State → List ℕ → ℕ → CompileStop → Reply → State → Type 0

@@ -1,4 +1,4 @@
--- Why a command would clash, and what a line leads to that says a command or asks this of one.
+-- Why a change would clash, and what a line leads to that says a command or asks this of a change.
 use Rattle.std.specs.Prelude.{◌⊎◌, ℕ, List}
 use Rattle.std.specs.Global.{Vec}
 use Rattle.frac_core.specs.Fraction.{Fraction}
@@ -11,11 +11,13 @@ use Rattle.conflict_core.specs.Cores.{IsCore}
 use Rattle.conflict_core.specs.Shown.{IsShownCore}
 use Rattle.conflict_core.specs.Trials.{IsCoreStop}
 use Rattle.conflict_core.specs.declared.found.CoreStop.TheVariants as trial
-use Rattle.script_text.specs.Meaning.{Meaning, Said}
+use Rattle.script_text.specs.Meaning.{Change, Said}
 use Rattle.script_text.specs.Meaning as mean
-use Rattle.session_undo.specs.Adding.{NoEnd, NoOther}
-use Rattle.session_undo.specs.Machine.{Keeps, MeaningStep, Poses, Tried}
-use Rattle.session_undo.specs.Replies.{Reply, Core, Held, Solvable, Overflow, Spent}
+use Rattle.scenes.specs.Scene.{Scene}
+use Rattle.scenes.specs.Steps.{IsProblemOf}
+use Rattle.session_undo.specs.Adding.{NoEnd}
+use Rattle.session_undo.specs.Machine.{Keeps, CommandStep, PosesChange, Tried}
+use Rattle.session_undo.specs.Replies.{Reply, Core, Held, Nothing, Solvable, Overflow, Spent}
 use Rattle.session_undo.specs.State.{State}
 
 -- the problem is one that the types can hold, its required rows have a solution, and it is told that there is
@@ -55,12 +57,17 @@ Explains old p reply new =
     FindsNone old p reply new ⊎ FindsCore old p reply new ⊎ TrialOverflows old p reply new
     ⊎ TrialSpends old p reply new
 
--- what asking why leads to: a cause is against the command, or the problem that it would solve is explained
-abbrev pub WhyStep : State → Meaning → Reply → State → Type 0
-WhyStep old m reply new =
-    Tried old m NoEnd NoOther reply new ⊎ ((p : Problem) × Poses old m p × Explains old p reply new)
+-- the same of the problem of a draft
+abbrev pub ExplainsDraft : State → Scene → Reply → State → Type 0
+ExplainsDraft old draft reply new = (p : Problem) × IsProblemOf draft p × Explains old p reply new
+
+-- what asking why leads to: a cause is against the change, or the problem that it would solve is explained
+abbrev pub WhyStep : State → Change → Reply → State → Type 0
+WhyStep old c reply new =
+    Tried old c NoEnd reply new ⊎ ((p : Problem) × PosesChange old c p × Explains old p reply new)
 
 -- what a line that says this leads to
 abbrev pub SaidStep : State → Said → Reply → State → Type 0
-SaidStep old (mean.Does m) = MeaningStep old m
-SaidStep old (mean.Why m) = WhyStep old m
+SaidStep old mean.Nothing = Keeps Nothing old
+SaidStep old (mean.Does c) = CommandStep old c
+SaidStep old (mean.Why c) = WhyStep old c

@@ -17,12 +17,12 @@ use Rattle.cert_core.specs.Stops.{IsShownConflict}
 use Rattle.cert_core.specs.declared.stops.UnfitPath.{UnfitPath}
 use Rattle.vfl_text.specs.Formats.{FormatMeaning}
 use Rattle.view_tree.specs.Drops.{AreGoing}
-use Rattle.layout_solver.specs.declared.removing.RemoveStop.{RemoveStop}
+use Rattle.layout_solver.specs.declared.request.RequestStop.{RequestStop}
 use Rattle.span_text.specs.Objects.{Meant}
 use Rattle.script_text.specs.declared.words.Align.{Align}
 use Rattle.script_text.specs.declared.words.AttrWord.{AttrWord}
 use Rattle.script_text.specs.Directions.{line_in}
-use Rattle.script_text.specs.Meaning.{Meaning, Linear}
+use Rattle.script_text.specs.Meaning.{Change, Coming, Command, Leaving, Linear, Plain, Updating}
 use Rattle.compile_parts.specs.Meaning.{MetricList, IsRank, unknown_object}
 use Rattle.constraint_compile.specs.Suggestions.{priority_or, scale_of, suggested_priority}
 use Rattle.constraint_compile.specs.declared.suggestion.Suggestion.{Suggestion}
@@ -48,10 +48,11 @@ use Rattle.scenes.specs.Scene.{with_direction, with_earlier, with_suggestion, wi
 use Rattle.scenes.specs.Scene.{with_kept}
 use Rattle.scenes.specs.Scene.{AreDraftRows, IsBestScene, with_intrinsic, with_preferred}
 use Rattle.session_undo.specs.State.{State}
-use Rattle.session_undo.specs.Replies.{Reply, Done, Nothing, Frames, Rows, Outside, Unknown, Taken, Limit}
+use Rattle.session_undo.specs.Replies.{Reply, Done, Frames, Rows, Outside, Unknown, Taken, Limit}
 use Rattle.session_undo.specs.Replies.{Kind, Certificate, NoEarlier, Conflict, Overflow, Spent, Place, Step}
 use Rattle.session_undo.specs.Replies.{Still, Diagnosed, NoTarget, Probe, Sweep, SweepOverflow, Swept}
 use Rattle.diagnosis.specs.Diagnoses.{Findings}
+use Rattle.scenes.specs.Drafts as step
 use Rattle.scenes.specs.Diagnosing.{AreFindingsOf, IsCertificateOf, IsProbedStop}
 use Rattle.scenes.specs.Sweeping.{AreSweptOf, IsFarSweep, IsSweepStopOf, problem_here}
 use Rattle.sweep_laws.specs.Fractions.{IsLess}
@@ -64,7 +65,7 @@ use Rattle.held_items.specs.Moving.{AreNear, FitsAfter, IsFarSize}
 use Rattle.scenes.specs.Steps.{IsProblemOf, CannotLeave, HasLeft, IsStopped, IsSolved}
 use Rattle.name_tables.specs.declared.stops.LimitWord.TheVariants as word
 use Rattle.cert_core.specs.declared.stops.RunStop.TheVariants as run
-use Rattle.layout_solver.specs.declared.removing.RemoveStop.TheVariants as removal
+use Rattle.layout_solver.specs.declared.request.RequestStop.TheVariants as request
 use Rattle.compile_parts.specs.declared.stops.KindWord.TheVariants as kind
 use Rattle.script_text.specs.Meaning as mean
 use Rattle.compile_parts.specs.declared.stops.CompileStop.TheVariants as stop
@@ -148,21 +149,22 @@ still_place [] = Step
 still_place (id ∷ ids) = Still (id ∷ ids)
 
 -- the reply to such a stop
-abbrev pub TellsStill : State → RemoveStop → Reply → State → Type 0
-TellsStill old (removal.Unfit still at) = Keeps (Overflow (still_place still.items) at.path at.quantity) old
-TellsStill old (removal.Spent path) = λ reply new. ⊥
-TellsStill old removal.OutOfMemory = λ reply new. ⊥
+abbrev pub TellsStill : State → RequestStop → Reply → State → Type 0
+TellsStill old (request.Unfit still at) = Keeps (Overflow (still_place still.items) at.path at.quantity) old
+TellsStill old (request.Conflict by) = λ reply new. ⊥
+TellsStill old (request.Spent path) = λ reply new. ⊥
+TellsStill old request.OutOfMemory = λ reply new. ⊥
 
 -- a quantity doesn't fit on the way, or at the end of a path within the budget
 pub record StillOverflows (draft : Scene) (old : State) (reply : Reply) (new : State) : Type 0 where
-  pub stop : RemoveStop
+  pub stop : RequestStop
   pub stopped : CannotLeave old.scene draft old.budget stop
   pub told : TellsStill old stop reply new
 
 -- a path from where the rows have left has just the budget's exchanges, and its last corner is no end
 pub record LeftSpends (draft : Scene) (old : State) (reply : Reply) (new : State) : Type 0 where
   pub path : Path
-  pub stopped : CannotLeave old.scene draft old.budget (removal.Spent path)
+  pub stopped : CannotLeave old.scene draft old.budget (request.Spent path)
   pub refused : Keeps (Spent Step path) old reply new
 
 -- the rest of the scene is solved, or there is no change
@@ -296,8 +298,7 @@ parent_name None = codes "window"
 parent_name (Some name) = name
 
 -- ---- The causes against each command, in the order in which they are tried. Where none of them is there,
--- `End` says what comes of the draft; of a command that has none, `Other` says what comes of its answer and
--- the session after.
+-- `End` says what comes of the draft.
 
 -- ---- views, metrics, the window
 
@@ -586,86 +587,108 @@ TriedDrop old name End =
     (Unless (IsOfWindow old.scene name) (Kind kind.Window) old
     (DropsView old name End))
 
--- ---- commands
+-- ---- changes
 
--- so many exchanges for each run from now on
-abbrev pub TriedBudget : State → ℕ → (Reply → State → Reply → State → Type 0) → Reply → State → Type 0
-TriedBudget old exchanges Other =
-    Unless ((exchanges ≡ 0) ⊎ (BUDGET_LIMIT < exchanges)) (Limit word.Budget) old
-    (Other Done (record old { budget = exchanges }))
+-- each change, by its meaning: views that come
+abbrev pub TriedViews : State → Coming → (Scene → Reply → State → Type 0) → Reply → State → Type 0
+TriedViews old (mean.View name parent) = TriedView old name (parent_name parent)
+TriedViews old (mean.Tree text start) = TriedTree old text start
 
--- the reply is a certificate of the scene's values
-abbrev pub Certifies : State → (Reply → State → Reply → State → Type 0) → Reply → State → Type 0
-Certifies old Other reply new =
-    (levels : List BestLevel) × IsCertificateOf old.scene levels × Other (Certificate levels) old reply new
+-- what is new or gets another value
+abbrev pub TriedUpdate : State → Updating → (Scene → Reply → State → Type 0) → Reply → State → Type 0
+TriedUpdate old (mean.Metric name value) = TriedMetric old name value
+TriedUpdate old (mean.Window width height) = TriedWindow old width height
+TriedUpdate old (mean.Constrain group line) = TriedConstraint old group line
+TriedUpdate old (mean.Vfl group align format) = TriedFormat old group align format
+TriedUpdate old (mean.Suggest name attr value priority) = TriedSuggest old name attr value priority
+TriedUpdate old (mean.Size name width height hug resist) = TriedSize old name width height hug resist
+
+-- what leaves
+abbrev pub TriedLeave : State → Leaving → (Scene → Reply → State → Type 0) → Reply → State → Type 0
+TriedLeave old (mean.Drop name) = TriedDrop old name
+TriedLeave old (mean.Remove group) = TriedRemove old group
+TriedLeave old (mean.Release name attr) = TriedRelease old name attr
+TriedLeave old (mean.Unsize name) = TriedUnsize old name
+
+-- and each of them
+abbrev pub Tried : State → Change → (Scene → Reply → State → Type 0) → Reply → State → Type 0
+Tried old (mean.Views new) = TriedViews old new
+Tried old (mean.Update new) = TriedUpdate old new
+Tried old (mean.Leave gone) = TriedLeave old gone
+Tried old (mean.Turn to) = λ End. End (with_direction old.scene to)
+Tried old (mean.Keep name) = TriedKeep old name
+
+-- the kind of its draft: views that come change no row that is held, and neither does a view that is kept, so
+-- they are in no conflict; nor is a scene from which rows leave; another direction changes no row
+abbrev pub kind_for : Change → step.Kind
+kind_for (mean.Views new) = step.Free
+kind_for (mean.Update new) = step.Any
+kind_for (mean.Leave gone) = step.Left
+kind_for (mean.Turn to) = step.Turned
+kind_for (mean.Keep name) = step.Free
+
+-- what comes of a draft of this kind
+abbrev pub EndsAs : State → step.Kind → Scene → Reply → State → Type 0
+EndsAs old step.Free = SolvesFree old
+EndsAs old step.Any = Solves old
+EndsAs old step.Left = LeavesFree old
+EndsAs old step.Turned = Stands old
+
+-- what a change leads to
+abbrev pub ChangeStep : State → Change → Reply → State → Type 0
+ChangeStep old c = Tried old c (EndsAs old (kind_for c))
+
+-- ---- other commands
+
+-- a run may not make so many exchanges
+abbrev pub IsNoBudget : ℕ → Type 0
+IsNoBudget exchanges = (exchanges ≡ 0) ⊎ (BUDGET_LIMIT < exchanges)
+
+-- each other command, by its meaning: the causes against it, and `Answer` where there is none
+abbrev pub TriedPlain : State → Plain → (Reply → State → Type 0) → Reply → State → Type 0
+TriedPlain old mean.Undo Answer = Unless (old.earlier ≡ []) NoEarlier old Answer
+TriedPlain old (mean.Budget exchanges) Answer = Unless (IsNoBudget exchanges) (Limit word.Budget) old Answer
+TriedPlain old (mean.Sweep from to) Answer = TriedSweep old from to Answer
+TriedPlain old mean.Frames Answer = Answer
+TriedPlain old mean.Rows Answer = Answer
+TriedPlain old mean.Diagnose Answer = Answer
+TriedPlain old mean.Certify Answer = Answer
 
 -- the latest earlier scene is the scene, and leaves the list
-abbrev pub TakesBack : State → (Reply → State → Reply → State → Type 0) → Reply → State → Type 0
-TakesBack old Other reply new =
-    (scene : Scene) × (earlier : List Scene) × (old.earlier ≡ scene ∷ earlier)
-    × Other Done (record old { scene = scene; earlier = earlier }) reply new
+pub record TakesBack (old : State) (reply : Reply) (new : State) : Type 0 where
+  pub done : reply ≡ Done
+  pub scene : Scene
+  pub earlier : List Scene
+  pub latest : old.earlier ≡ scene ∷ earlier
+  pub back : new ≡ record old { scene = scene; earlier = earlier }
 
--- going back to the latest earlier scene
-abbrev pub TriedUndo : State → (Reply → State → Reply → State → Type 0) → Reply → State → Type 0
-TriedUndo old Other = Unless (old.earlier ≡ []) NoEarlier old (TakesBack old Other)
+-- so many exchanges may be made from now on
+abbrev pub SetsBudget : State → ℕ → Reply → State → Type 0
+SetsBudget old exchanges reply new = (reply ≡ Done) × (new ≡ record old { budget = exchanges })
 
--- each command, by its meaning
-abbrev pub Tried : State → Meaning → (Scene → Reply → State → Type 0)
-    → (Reply → State → Reply → State → Type 0) → Reply → State → Type 0
-Tried old mean.Nothing End Other = Other Nothing old
-Tried old (mean.View name parent) End Other = TriedView old name (parent_name parent) End
-Tried old (mean.Tree text start) End Other = TriedTree old text start End
-Tried old (mean.Drop name) End Other = TriedDrop old name End
-Tried old (mean.Metric name value) End Other = TriedMetric old name value End
-Tried old (mean.Window width height) End Other = TriedWindow old width height End
-Tried old (mean.Constrain group line) End Other = TriedConstraint old group line End
-Tried old (mean.Vfl group align format) End Other = TriedFormat old group align format End
-Tried old (mean.Remove group) End Other = TriedRemove old group End
-Tried old (mean.Suggest name attr value priority) End Other = TriedSuggest old name attr value priority End
-Tried old (mean.Release name attr) End Other = TriedRelease old name attr End
-Tried old mean.Undo End Other = TriedUndo old Other
-Tried old (mean.Budget exchanges) End Other = TriedBudget old exchanges Other
-Tried old mean.Frames End Other = Other Frames old
-Tried old mean.Rows End Other = Other Rows old
-Tried old mean.Diagnose End Other = End old.scene
-Tried old mean.Certify End Other = Certifies old Other
-Tried old (mean.Turn to) End Other = End (with_direction old.scene to)
-Tried old (mean.Size name width height hug resist) End Other = TriedSize old name width height hug resist End
-Tried old (mean.Unsize name) End Other = TriedUnsize old name End
-Tried old (mean.Keep name) End Other = TriedKeep old name End
-Tried old (mean.Sweep from to) End Other = TriedSweep old from to (End old.scene)
+-- the reply is a certificate of the scene's values
+abbrev pub Certifies : State → Reply → State → Type 0
+Certifies old reply new =
+    (levels : List BestLevel) × IsCertificateOf old.scene levels × Keeps (Certificate levels) old reply new
 
--- ---- what a line leads to
+-- the answer to each of them
+abbrev pub Answers : State → Plain → Reply → State → Type 0
+Answers old mean.Undo = TakesBack old
+Answers old (mean.Budget exchanges) = SetsBudget old exchanges
+Answers old mean.Frames = Keeps Frames old
+Answers old mean.Rows = Keeps Rows old
+Answers old mean.Diagnose = Diagnoses old
+Answers old mean.Certify = Certifies old
+Answers old (mean.Sweep from to) = Sweeps old from to
 
--- a draft is solved; that of new views, which change no row that is held, that of a view that is kept, and
--- one from which rows have left are in no conflict; another direction changes no row
-abbrev pub Ends : State → Meaning → Scene → Reply → State → Type 0
-Ends old (mean.View name parent) = SolvesFree old
-Ends old (mean.Tree text start) = SolvesFree old
-Ends old (mean.Drop name) = LeavesFree old
-Ends old (mean.Remove group) = LeavesFree old
-Ends old (mean.Release name attr) = LeavesFree old
-Ends old mean.Nothing = Solves old
-Ends old (mean.Metric name value) = Solves old
-Ends old (mean.Window width height) = Solves old
-Ends old (mean.Constrain group line) = Solves old
-Ends old (mean.Vfl group align format) = Solves old
-Ends old (mean.Suggest name attr value priority) = Solves old
-Ends old mean.Undo = Solves old
-Ends old (mean.Budget exchanges) = Solves old
-Ends old mean.Frames = Solves old
-Ends old mean.Rows = Solves old
-Ends old mean.Diagnose = λ scene. Diagnoses old
-Ends old mean.Certify = Solves old
-Ends old (mean.Turn to) = Stands old
-Ends old (mean.Size name width height hug resist) = Solves old
-Ends old (mean.Unsize name) = LeavesFree old
-Ends old (mean.Keep name) = SolvesFree old
-Ends old (mean.Sweep from to) = λ scene. Sweeps old from to
+-- what another command leads to
+abbrev pub PlainStep : State → Plain → Reply → State → Type 0
+PlainStep old c = TriedPlain old c (Answers old c)
 
--- what a line that says this leads to
-abbrev pub MeaningStep : State → Meaning → Reply → State → Type 0
-MeaningStep old m = Tried old m (Ends old m) Keeps
+-- what a command leads to
+abbrev pub CommandStep : State → Command → Reply → State → Type 0
+CommandStep old (mean.Changes c) = ChangeStep old c
+CommandStep old (mean.Other c) = PlainStep old c
 
 -- ---- what a command would solve
 
@@ -673,19 +696,18 @@ MeaningStep old m = Tried old m (Ends old m) Keeps
 abbrev pub PosesDraft : Problem → Scene → Reply → State → Type 0
 PosesDraft p draft reply new = IsProblemOf draft p
 
--- the problem is that of the scene
-abbrev pub PosesScene : State → Problem → Reply → State → Reply → State → Type 0
-PosesScene old p answer next reply new = p ≡ problem_of old.scene
+-- no cause is against the change, and this is the problem of its draft (a cause would make the reply a refusal,
+-- and `Done` is none)
+abbrev pub PosesChange : State → Change → Problem → Type 0
+PosesChange old c p = Tried old c (PosesDraft p) Done old
 
--- the problem is that of the rows as they are, with the stays at the present values
-abbrev pub PosesHere : State → Problem → Reply → State → Type 0
-PosesHere old p reply new = p ≡ problem_here old.scene
+-- the problem that the scene has: for a sweep that of the rows as they are, with the stays at the present
+-- values
+abbrev pub present_problem : Scene → Plain → Problem
+present_problem scene (mean.Sweep from to) = problem_here scene
+present_problem scene c = problem_of scene
 
--- no cause is against the command, and this is the problem of its draft; of a sweep it is that of the present
--- width, and of another command that has no draft the scene's (a cause would make the reply a refusal, and
--- `Done` is none; there is none against `certify` and `diagnose`)
-abbrev pub Poses : State → Meaning → Problem → Type 0
-Poses old mean.Certify p = p ≡ problem_of old.scene
-Poses old mean.Diagnose p = p ≡ problem_of old.scene
-Poses old (mean.Sweep from to) p = TriedSweep old from to (PosesHere old p) Done old
-Poses old m p = Tried old m (PosesDraft p) (PosesScene old p) Done old
+-- the same of a command: the problem of one that has no draft is the scene's
+abbrev pub Poses : State → Command → Problem → Type 0
+Poses old (mean.Changes c) p = PosesChange old c p
+Poses old (mean.Other c) p = TriedPlain old c (λ reply new. p ≡ present_problem old.scene c) Done old

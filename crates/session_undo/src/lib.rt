@@ -7,8 +7,10 @@
 //!
 //! ```
 //! let mut session = Session::new(alloc)?;
-//! session.apply(read_line(alloc, b"view card")?)?;                      // Reply::Done
-//! session.apply(read_line(alloc, b"constrain c card.width == 100")?)?;  // Reply::Done
+//! let view = read_line_in(alloc, b"view card", Version::One)?;
+//! session.apply(view)?;                         // Reply::Done
+//! let line = read_line_in(alloc, b"constrain c card.width == 100", Version::One)?;
+//! session.apply(line)?;                         // Reply::Done
 //! session.frame(ViewId(1));                     // left 0, top 0, width 100, height 0
 //! session.moved()?;                             // Some([1])
 //! session.undo()?;
@@ -23,16 +25,16 @@
 //! What solves a draft, and what a problem is of, is the scene's (`scenes`): a session finds the causes
 //! against a command, and tells what the scene's step came to.
 //!
-//! In reading order: `reply`, `limits`, `changes`, `draft` (what a command asks of the scene), `session`, and
-//! `session::moved`, which frames are others than before the latest step.
+//! In reading order: `reply`, `limits`, `changes`, `wishes` (suggestions and sizes of views), `session`, and
+//! `session::moved`, the views whose frames the latest step changed.
 #![tactic(auto)]
 
 mod changes;
-mod draft;
 mod limits;
 mod reply;
 mod session;
+mod wishes;
 
-pub use limits::{Limits, constants_are_as_said};
+pub use limits::{BUDGET_LIMIT, Limits, constants_are_as_said};
 pub use reply::{NoEarlier, Refusal, Reply, StopPlace, Stretches};
 pub use session::Session;

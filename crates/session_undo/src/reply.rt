@@ -1,19 +1,19 @@
 // What a session says to a line: its replies, and the causes of its refusals.
 ghost use Rattle.std.specs.Prelude.{◌≡◌, ℕ, List};
 ghost use Rattle.view_tree.specs.JsonStops.{MayStayOut};
-ghost use Rattle.session_undo.specs.Adding.{refusal_of, answer_of, IsLeftAnswer, NoEnd, TellsStop};
+ghost use Rattle.session_undo.specs.Adding.{IsAnswerOf, NoEnd, TellsStop};
 ghost use Rattle.session_undo.specs.Machine.{TriedTree};
 ghost use Rattle.session_undo.specs.Explained.{core_refusal};
 ghost use Rattle.session_undo.specs.Probed.{probe_refusal, sweep_refusal};
 ghost use Rattle.session_undo.specs.Replies.{MayRefuse};
 ghost use Rattle.session_undo.specs.State.{State};
 
-use cert_core::{Best, Conflict, Path, RunStop, UnfitPath};
+use cert_core::{Best, Conflict, Path, UnfitPath};
 use compile_parts::KindWord;
 use conflict_core::{CoreStop, Found};
 use diagnosis::{DiagnoseStop, Diagnosis};
 use frac_core::{Frac, OutOfMemory};
-use layout_solver::RemoveStop;
+use layout_solver::RequestStop;
 use name_tables::{LimitWord, OwnedName};
 use std::alloc::AllocError;
 use sweep_run::{Stretch, SweepQuantity, SweepStop};
@@ -156,40 +156,13 @@ pub fn tree_refusal(start: usize, stop: TreeStop) -> Refusal
     }
 }
 
-// The refusal for what stops the engine.
-fn refusal_of(stop: RunStop) -> Refusal
-    ensures { result ≡ refusal_of stop }
-{
-    match stop {
-        RunStop::Conflict(by) => Refusal::Conflict(by),
-        RunStop::Unfit(at) => Refusal::Overflow {
-            place: StopPlace::Step,
-            at,
-        },
-        RunStop::Spent(path) => Refusal::Spent {
-            place: StopPlace::Step,
-            path,
-        },
-        RunStop::OutOfMemory => Refusal::OutOfMemory,
-    }
-}
-
-/// The answer to what a run comes to.
-pub fn answer_of(end: Result<(), RunStop>) -> Result<Reply, Refusal>
-    ensures { result ≡ answer_of end }
-{
-    match end {
-        Ok(()) => Ok(Reply::Done),
-        Err(stop) => Err(refusal_of(stop)),
-    }
-}
-
-// The refusal for what stops a removal.
-fn removal_refusal(stop: RemoveStop) -> Refusal
+// The refusal for what stops a step of the scene.
+fn refusal_of(stop: RequestStop) -> Refusal
     ensures { TellsStop stop result }
 {
     match stop {
-        RemoveStop::Unfit { still, at } => {
+        RequestStop::Conflict(by) => Refusal::Conflict(by),
+        RequestStop::Unfit { still, at } => {
             let place = if still.is_empty() {
                 StopPlace::Step
             } else {
@@ -197,21 +170,21 @@ fn removal_refusal(stop: RemoveStop) -> Refusal
             };
             Refusal::Overflow { place, at }
         }
-        RemoveStop::Spent(path) => Refusal::Spent {
+        RequestStop::Spent(path) => Refusal::Spent {
             place: StopPlace::Step,
             path,
         },
-        RemoveStop::OutOfMemory => Refusal::OutOfMemory,
+        RequestStop::OutOfMemory => Refusal::OutOfMemory,
     }
 }
 
-/// The answer to what a removal comes to.
-pub fn left_answer(end: Result<(), RemoveStop>) -> Result<Reply, Refusal>
-    ensures { IsLeftAnswer end result }
+/// The answer to what a step of the scene comes to.
+pub fn answer_of(end: Result<(), RequestStop>) -> Result<Reply, Refusal>
+    ensures { IsAnswerOf end result }
 {
     match end {
         Ok(()) => Ok(Reply::Done),
-        Err(stop) => Err(removal_refusal(stop)),
+        Err(stop) => Err(refusal_of(stop)),
     }
 }
 

@@ -3,16 +3,16 @@ mod moved;
 
 ghost use Rattle.std.specs.Prelude.{◌≡◌, ◌<◌, ◌≤◌, ◌⊎◌, true, false, length, None};
 ghost use Rattle.std.specs.Prelude.{Option, Some, ℕ, IfOk, IfErr, IfSome, IfNone, OnOk, OnErr, OnSome};
-ghost use Rattle.session_undo.specs.declared.limits.TheConstants.{BUDGET_LIMIT};
+ghost use Rattle.session_undo.specs.Machine.{IsNoBudget};
 ghost use Rattle.held_items.specs.declared.row_numbers.TheConstants.{INTRINSIC_ROWS, SIZE_ROWS};
 
 use crate::changes::{Pulls, Ranks, later_intrinsic, parent_or_window, put_metric};
-use crate::draft::Draft;
 use crate::limits::{BUDGET_LIMIT, FIRST_LIMITS, Limits};
 use crate::reply::{
-    NoEarlier, Refusal, Reply, Stretches, answer_of, core_refusal, left_answer, probe_refusal,
-    sweep_refusal, tree_refusal,
+    NoEarlier, Refusal, Reply, Stretches, answer_of, core_refusal, probe_refusal, sweep_refusal,
+    tree_refusal,
 };
+use crate::wishes::{NewIntrinsic, NewSuggestion};
 use compile_parts::{CompileStop, KindWord, resolve_rank};
 use constraint_compile::{
     Compiled, Suggestion, USUAL_RANK, compile_line, priority_or, suggested_constant,
@@ -20,15 +20,17 @@ use constraint_compile::{
 use format_compile::{compile_format, format_row_count};
 use frac_core::{Frac, OutOfMemory, Stop};
 use held_items::{
-    INTRINSIC_ROWS, IntrinsicSize, NewIntrinsic, NewSuggestion, NewViews, SIZE_ROWS, USUAL_HUG,
-    USUAL_RESIST, VIEW_ROWS, WindowSize, fits_after, intrinsic_name, small_line_rows,
-    suggestion_name,
+    HeldSize, INTRINSIC_ROWS, IntrinsicSize, Item, Leaver, NewItem, NewViews, Renewal, SIZE_ROWS,
+    USUAL_HUG, USUAL_RESIST, VIEW_ROWS, WindowSize, fits_after, intrinsic_name, is_near_size,
+    small_line_rows, suggestion_name,
 };
 use layout_solver::Engine;
 use name_tables::{LimitWord, Metrics, NAME_LIMIT, OwnedName};
 use problem_core::{NUMBER_LIMIT, Problem, Values};
-use scenes::{FIRST_BUDGET, NewLine, NewMetrics, Scene, Update};
-use script_text::{Align, AttrWord, Command, Linear, Reading, Version};
+use scenes::{Draft, FIRST_BUDGET, NewMetrics, Scene};
+use script_text::{
+    Align, AttrWord, Change, Coming, Command, Leaving, Linear, Plain, Reading, Updating, Version,
+};
 use span_text::Object;
 use std::alloc::Global;
 use std::cmp::Ordering;
@@ -38,8 +40,8 @@ use view_tree::{TreeStop, ViewId, ViewStop};
 
 // Whether a run may not be allowed so many exchanges.
 fn is_no_budget(exchanges: u64) -> bool
-    ensures yes { result ≡ true → (exchanges ≡ 0) ⊎ (BUDGET_LIMIT < exchanges) }
-    ensures no { result ≡ false → (exchanges ≡ 0) ⊎ (BUDGET_LIMIT < exchanges) → ⊥ }
+    ensures yes { result ≡ true → IsNoBudget exchanges }
+    ensures no { result ≡ false → IsNoBudget exchanges → ⊥ }
 {
     exchanges == 0 || exchanges > BUDGET_LIMIT
 }
@@ -67,47 +69,50 @@ impl Model for Session {
 
 impl Session {
     ghost use Rattle.script_text.specs.Directions.{line_in};
-    ghost use Rattle.script_text.specs.View.{linear_view, reading_view, view};
+    ghost use Rattle.script_text.specs.Meaning as mean;
+    ghost use Rattle.script_text.specs.View.{change_view, coming_view, leaving_view, linear_view};
+    ghost use Rattle.script_text.specs.View.{name_view, plain_view, reading_view, updating_view, view};
     ghost use Rattle.vfl_text.specs.View.{meaning};
     ghost use Rattle.view_tree.specs.JsonStops as json;
-    ghost use Rattle.view_tree.specs.Views.{view_of};
+    ghost use Rattle.view_tree.specs.Views.{IsTree, view_of};
     ghost use Rattle.scenes.specs.Scene.{metrics_with, values_by_number};
-    ghost use Rattle.constraint_compile.specs.Compiled.{AreSmallForms};
+    ghost use Rattle.constraint_compile.specs.Compiled.{AreSmallForms, CompiledLine};
     ghost use Rattle.constraint_compile.specs.Stops.{IsCompiled};
     ghost use Rattle.format_compile.specs.FormatRows.{IsCompiledFormat};
     ghost use Rattle.held_items.specs.Attributes.{IsNextLine};
     ghost use Rattle.scenes.specs.Drafts.{AreComing, IsViewNamed};
-    ghost use Rattle.session_undo.specs.Adding.{AddStop, IsFreeLine, IsFreeMetric, IsFreeName, IsFreeSize};
+    ghost use Rattle.session_undo.specs.Adding.{AddStop, IsFreeMetric, IsFreeName};
     ghost use Rattle.session_undo.specs.Adding.{IsFreeSuggestion, IsFreeTree, IsFreeView, IsGoing};
     ghost use Rattle.session_undo.specs.Adding.{IsGroupFree, IsGroupLimit, IsHeldSuggestion, IsLineFree};
-    ghost use Rattle.session_undo.specs.Adding.{IsLineLimit, IsSuggestionFor, IsSuggestionOf, NoEnd, NoOther};
-    ghost use Rattle.session_undo.specs.Adding.{IsViewMore, StopStep, SuggestStep, UnlessUnfree, ViewStep};
+    ghost use Rattle.session_undo.specs.Adding.{IsLineLimit, IsNewLine, IsRefused, IsSuggestionFor};
+    ghost use Rattle.session_undo.specs.Adding.{IsSuggestionOf, IsViewMore, NoAnswer, NoEnd, StopStep};
+    ghost use Rattle.session_undo.specs.Adding.{SuggestStep, UnlessUnfree, ViewStep};
     ghost use Rattle.scenes.specs.Frames.{IsFrameOf};
     ghost use Rattle.session_undo.specs.Kept.{AreWithin, limits_of};
     ghost use Rattle.session_undo.specs.State.{IsFirst, IsFirstOf, IsFirstWith};
     ghost use Rattle.session_undo.specs.Replies.{Accepting, Done, Limit, MayRefuse, Refusing};
-    ghost use Rattle.held_items.specs.Items.{has_size};
-    ghost use Rattle.session_undo.specs.Machine.{AreTooMany, Certifies, Diagnoses, IsCrowded, IsTaken, Keeps};
-    ghost use Rattle.session_undo.specs.Machine.{MeaningStep, Poses, PosesScene, Suggests, Tried};
-    ghost use Rattle.session_undo.specs.Machine.{TriedBudget, TriedConstraint, TriedDrop, TriedFormat};
+    ghost use Rattle.held_items.specs.Items.{has_size, size_of};
+    ghost use Rattle.held_items.specs.Kept.{size_in};
+    ghost use Rattle.session_undo.specs.Machine.{AreTooMany, Certifies, ChangeStep, CommandStep, Diagnoses};
+    ghost use Rattle.session_undo.specs.Machine.{EndsAs, IsCrowded, IsTaken, PlainStep, Poses, PosesChange};
+    ghost use Rattle.session_undo.specs.Machine.{Suggests, Tried};
+    ghost use Rattle.session_undo.specs.Machine.{TriedLeave, TriedUpdate, TriedViews};
+    ghost use Rattle.session_undo.specs.Machine.{TriedConstraint, TriedDrop, TriedFormat};
     ghost use Rattle.session_undo.specs.Machine.{TriedMetric, TriedRelease, TriedRemove, TriedSuggest};
-    ghost use Rattle.session_undo.specs.Machine.{TriedTree, TriedUndo, TriedView, TriedWindow};
+    ghost use Rattle.session_undo.specs.Machine.{TriedTree, TriedView, TriedWindow};
     ghost use Rattle.session_undo.specs.Machine.{AreKnownPulls, IsRankless, Sizes, TriedSize, TriedUnsize};
     ghost use Rattle.session_undo.specs.Machine.{UnlessPullsRankless, UnlessRankless, UnlessUnknown};
     ghost use Rattle.session_undo.specs.Machine.{TriedKeep, intrinsic_at};
-    ghost use Rattle.session_undo.specs.Machine.{IsNoSweep, IsSweepFree, PosesHere, Sweeps, TriedSweep};
+    ghost use Rattle.session_undo.specs.Machine.{IsNoSweep, IsSweepFree, Sweeps, TriedSweep};
     ghost use Rattle.session_undo.specs.Adding.{AreRanks, IsFreeIntrinsic, IsHeldIntrinsic, IsIntrinsicFor};
     ghost use Rattle.session_undo.specs.Adding.{SizeStep};
-    ghost use Rattle.scenes.specs.Steps.{IsProblemOf};
-    ghost use Rattle.session_undo.specs.Explaining.{Explains, SaidStep, WhyStep};
+    ghost use Rattle.session_undo.specs.Explaining.{ExplainsDraft, SaidStep, WhyStep};
     ghost use Rattle.held_items.specs.Moving.{FitsAfter};
     ghost use Rattle.compile_parts.specs.Meaning.{IsRank, unknown_object};
     ghost use Rattle.constraint_compile.specs.Suggestions.{priority_or, suggested_priority};
     ghost use Rattle.span_text.specs.Objects.{Meant, object_view};
-    ghost use Rattle.session_undo.specs.Asking.{Any, EndsAs, Free, IsDraft, Kept, Left, MayTake, Plain};
-    ghost use Rattle.session_undo.specs.Asking.{Turned};
-    ghost use Rattle.session_undo.specs.Asking.{IsUnwish, IsWish, drafted};
-    ghost use Rattle.session_undo.specs.Asking.{kind_for, kind_of};
+    ghost use Rattle.session_undo.specs.Asking.{IsDraft};
+    ghost use Rattle.scenes.specs.Drafts.{MayTake, drafted, kind_of};
     ghost use Rattle.held_items.specs.Leaving.{is_in_group};
     ghost use Rattle.std.specs.List.{list_any};
     ghost use Rattle.session_undo.specs.Replies as reply;
@@ -328,43 +333,6 @@ impl Session {
         }
     }
 
-    // The limit that this size of the window would pass.
-    fn size_limit(&self, size: &WindowSize) -> Option<LimitWord>
-        ensures full { IfSome result
-            (λ word. TriedWindow self.now size.now.width size.now.height NoEnd (Limit word) self.now) }
-        ensures free { IfNone result (IsFreeSize self.now size.now.width size.now.height) }
-    {
-        if self.has_no_room_for_size() {
-            return Some(LimitWord::Rows);
-        }
-        if self.scene.is_far(size) {
-            return Some(LimitWord::Constant);
-        }
-        None
-    }
-
-    // The size of the window with these constants.
-    fn new_size(&self, width: Frac, height: Frac) -> Result<WindowSize, Refusal>
-        ensures is { IfOk result (λ size. size ≡ record { width = width; height = height }) }
-        ensures made { OnOk result (IsFreeSize self.now width height) }
-        ensures refused { Refusing (TriedWindow self.now width height NoEnd) self.now result }
-    {
-        let size = WindowSize { width, height };
-        match self.size_limit(&size) {
-            Some(word) => Err(Refusal::Limit(word)),
-            None => Ok(size),
-        }
-    }
-
-    // Whether the window has no size, and there is no room for the rows of one.
-    fn has_no_room_for_size(&self) -> bool
-        ensures yes { result ≡ true → (has_size self.now.scene.held ≡ false) × IsCrowded self.now SIZE_ROWS }
-        ensures no { result ≡ false
-            → (has_size self.now.scene.held ≡ false) × IsCrowded self.now SIZE_ROWS → ⊥ }
-    {
-        !self.scene.has_size() && self.is_crowded(SIZE_ROWS as usize)
-    }
-
     // The limit that a further line of this group would pass, rows left out.
     fn group_limit(&self, group: &str) -> Option<LimitWord>
         ensures full { IfSome result (IsGroupLimit self.now group.now) }
@@ -394,11 +362,10 @@ impl Session {
     }
 
     // The line, with its rows and room for them.
-    fn new_line(&self, group: &str, line: Compiled) -> Result<NewLine, Refusal>
+    fn new_line(&self, group: &str, line: Compiled) -> Result<NewItem, Refusal>
         requires small { AreSmallForms self.now.scene.metrics line.rows }
         requires next { IsNextLine self.now.scene.tree.views self.now.scene.next_row line }
-        ensures line { IfOk result (λ new. new.line ≡ line) }
-        ensures made { IfOk result (λ new. IsFreeLine self.now group.now new.group new.line new.rows.items) }
+        ensures made { IfOk result (IsNewLine self.now group.now line) }
         ensures refused { Refusing (AddStop self.now group.now line) self.now result }
     {
         let rows = small_line_rows(self.alloc, &line, self.scene.metrics())?;
@@ -406,7 +373,8 @@ impl Session {
             return Err(Refusal::Limit(word));
         }
         let group = OwnedName::of(self.alloc, group.as_bytes())?;
-        Ok(NewLine { group, line, rows })
+        let item = Item::OfLine { group, line };
+        Ok(NewItem { item, rows })
     }
 
     // The refusal of a line of so many rows at which the compiler stops.
@@ -428,11 +396,11 @@ impl Session {
     }
 
     // The line that a linear constraint makes.
-    fn new_constraint(&self, group: &str, line: &Linear<'_>) -> Result<NewLine, Refusal>
-        ensures is { IfOk result
-            (λ new. IsCompiled self.now.scene.tree.views self.now.scene.metrics
-            (line_in self.now.scene.direction (linear_view line.now)) self.now.scene.next_row new.line) }
-        ensures made { IfOk result (λ new. IsFreeLine self.now group.now new.group new.line new.rows.items) }
+    fn new_constraint(&self, group: &str, line: &Linear<'_>) -> Result<NewItem, Refusal>
+        ensures made { IfOk result (λ new. (compiled : CompiledLine)
+            × IsCompiled self.now.scene.tree.views self.now.scene.metrics
+            (line_in self.now.scene.direction (linear_view line.now)) self.now.scene.next_row compiled
+            × IsNewLine self.now group.now compiled new) }
         ensures refused { Refusing
             (TriedConstraint self.now group.now (linear_view line.now) NoEnd) self.now result }
     {
@@ -450,11 +418,11 @@ impl Session {
         group: &str,
         align: Option<Align>,
         format: &Format<'_>,
-    ) -> Result<NewLine, Refusal>
-        ensures is { IfOk result
-            (λ new. IsCompiledFormat self.now.scene.tree.views self.now.scene.metrics
-            (meaning format.now) align self.now.scene.direction self.now.scene.next_row new.line) }
-        ensures made { IfOk result (λ new. IsFreeLine self.now group.now new.group new.line new.rows.items) }
+    ) -> Result<NewItem, Refusal>
+        ensures made { IfOk result (λ new. (compiled : CompiledLine)
+            × IsCompiledFormat self.now.scene.tree.views self.now.scene.metrics
+            (meaning format.now) align self.now.scene.direction self.now.scene.next_row compiled
+            × IsNewLine self.now group.now compiled new) }
         ensures refused { Refusing
             (TriedFormat self.now group.now align (meaning format.now) NoEnd) self.now result }
     {
@@ -782,16 +750,16 @@ impl Session {
 
     // A certificate of the scene's values.
     fn certify(&self) -> Result<Reply, Refusal>
-        ensures accepted { Accepting (Certifies self.now Keeps) self.now result }
-        ensures refused { Refusing (Certifies self.now Keeps) self.now result }
+        ensures accepted { Accepting (Certifies self.now) self.now result }
+        ensures refused { Refusing (Certifies self.now) self.now result }
     {
         Ok(Reply::Certificate(self.scene.certificate()?))
     }
 
     /// Takes the latest earlier scene back, which takes no memory. The budget is as before.
     pub fn undo(&mut self) -> Result<(), NoEarlier>
-        ensures back { OnOk result (TriedUndo self.old Keeps Done self.new) }
-        ensures none { OnErr result (TriedUndo self.old Keeps reply.NoEarlier self.old) }
+        ensures back { OnOk result (PlainStep self.old mean.Undo Done self.new) }
+        ensures none { OnErr result (PlainStep self.old mean.Undo reply.NoEarlier self.old) }
         ensures same { OnErr result (self.new ≡ self.old) }
     {
         if !self.scene.has_earlier() {
@@ -803,8 +771,8 @@ impl Session {
 
     // The answer to `undo`.
     fn take_back(&mut self) -> Result<Reply, Refusal>
-        ensures accepted { Accepting (TriedUndo self.old Keeps) self.new result }
-        ensures refused { Refusing (TriedUndo self.old Keeps) self.old result }
+        ensures accepted { Accepting (PlainStep self.old mean.Undo) self.new result }
+        ensures refused { Refusing (PlainStep self.old mean.Undo) self.old result }
         ensures same { OnErr result (self.new ≡ self.old) }
     {
         match self.undo() {
@@ -815,8 +783,8 @@ impl Session {
 
     // The scene's problem, where there is an earlier scene.
     fn undo_problem(&self) -> Result<Problem, Refusal>
-        ensures posed { IfOk result (λ p. TriedUndo self.now (PosesScene self.now p) Done self.now) }
-        ensures refused { Refusing (TriedUndo self.now NoOther) self.now result }
+        ensures posed { IfOk result (Poses self.now (mean.Other mean.Undo)) }
+        ensures refused { Refusing (IsRefused self.now (mean.Other mean.Undo)) self.now result }
     {
         if !self.scene.has_earlier() {
             return Err(Refusal::NoEarlier);
@@ -826,8 +794,8 @@ impl Session {
 
     // Each run may make so many exchanges.
     fn set_budget(&mut self, exchanges: u64) -> Result<Reply, Refusal>
-        ensures accepted { Accepting (TriedBudget self.old exchanges Keeps) self.new result }
-        ensures refused { Refusing (TriedBudget self.old exchanges Keeps) self.old result }
+        ensures accepted { Accepting (PlainStep self.old (mean.Budget exchanges)) self.new result }
+        ensures refused { Refusing (PlainStep self.old (mean.Budget exchanges)) self.old result }
         ensures same { OnErr result (self.new ≡ self.old) }
     {
         if is_no_budget(exchanges) {
@@ -860,7 +828,7 @@ impl Session {
     // The cause against a sweep of the window's widths from the one to the other.
     fn may_sweep(&self, from: Frac, to: Frac) -> Result<(), Refusal>
         ensures free { OnOk result (IsSweepFree self.now.scene from to) }
-        ensures refused { Refusing (TriedSweep self.now from to (NoEnd self.now.scene)) self.now result }
+        ensures refused { Refusing (TriedSweep self.now from to NoAnswer) self.now result }
     {
         if self.is_no_sweep(from, to) {
             return Err(Refusal::Kind(KindWord::Sweep));
@@ -885,8 +853,8 @@ impl Session {
 
     // The problem that is swept, with the present width.
     fn sweep_problem(&self, from: Frac, to: Frac) -> Result<Problem, Refusal>
-        ensures posed { IfOk result (λ p. TriedSweep self.now from to (PosesHere self.now p) Done self.now) }
-        ensures refused { Refusing (TriedSweep self.now from to (NoEnd self.now.scene)) self.now result }
+        ensures posed { IfOk result (Poses self.now (mean.Other (mean.Sweep from to))) }
+        ensures refused { Refusing (IsRefused self.now (mean.Other (mean.Sweep from to))) self.now result }
     {
         self.may_sweep(from, to)?;
         Ok(self.scene.problem_here()?)
@@ -894,9 +862,8 @@ impl Session {
 
     // The scene's problem, where so many exchanges may be allowed.
     fn budget_problem(&self, exchanges: u64) -> Result<Problem, Refusal>
-        ensures posed { IfOk result
-            (λ p. TriedBudget self.now exchanges (PosesScene self.now p) Done self.now) }
-        ensures refused { Refusing (TriedBudget self.now exchanges NoOther) self.now result }
+        ensures posed { IfOk result (Poses self.now (mean.Other (mean.Budget exchanges))) }
+        ensures refused { Refusing (IsRefused self.now (mean.Other (mean.Budget exchanges))) self.now result }
     {
         if is_no_budget(exchanges) {
             return Err(Refusal::Limit(LimitWord::Budget));
@@ -911,44 +878,241 @@ impl Session {
         let _ = &self.limits; // for the proof: what a session keeps
     }
 
-    // The draft of a command by which views come.
-    fn views_draft(&self, command: &Command<'_>) -> Result<Option<Draft>, Refusal>
-        ensures made { IfOk result (λ o. IfSome o (IsDraft self.now (view command.now))) }
-        ensures none { IfOk result (λ o. IfNone o (kind_for (view command.now) ≡ Free → ⊥)) }
-        ensures refused { Refusing (Tried self.now (view command.now) NoEnd NoOther) self.now result }
+    // What a scene keeps, for proofs.
+    fn show_numbers(&self)
+        ensures above { 0 < self.now.scene.next_row }
+        ensures tree { IsTree self.now.scene.tree }
+    {
+        let _next = self.scene.next_row(); // for the proof: what a scene keeps
+        let _count = self.scene.tree().len(); // for the proof: what a tree keeps
+    }
+
+    // Drafts a new view.
+    fn view_draft(&self, name: &str, parent: Option<&str>) -> Result<Draft, Refusal>
+        ensures made { IfOk result
+            (IsDraft self.now (mean.Views (mean.View name.now (name_view parent.entry)))) }
+        ensures refused { Refusing
+            (TriedViews self.now (mean.View name.now (name_view parent.entry)) NoEnd) self.now result }
     {
         self.show_limits(); // for the proof: what a session keeps
-        match command {
-            Command::View { name, parent } => {
-                let new = self.new_view(name, parent_or_window(*parent))?;
-                Ok(Some(Draft::Views(new)))
-            }
-            Command::Tree { text, start } => {
-                let new = self.new_tree(text, *start)?;
-                Ok(Some(Draft::Views(new)))
-            }
-            _ => Ok(None),
+        let new = self.new_view(name, parent_or_window(parent))?;
+        Ok(Draft::Views(new))
+    }
+
+    // Drafts the views of a tree. Its text begins at this offset of its line.
+    fn tree_draft(&self, text: &[u8], start: usize) -> Result<Draft, Refusal>
+        ensures made { IfOk result (IsDraft self.now (mean.Views (mean.Tree text.now start))) }
+        ensures refused { Refusing
+            (Tried self.now (mean.Views (mean.Tree text.now start)) NoEnd) self.now result }
+    {
+        self.show_limits(); // for the proof: what a session keeps
+        let new = self.new_tree(text, start)?;
+        Ok(Draft::Views(new))
+    }
+
+    // Drafts this value of a metric.
+    fn metric_draft(&self, name: &str, value: Frac) -> Result<Draft, Refusal>
+        ensures made { IfOk result (IsDraft self.now (mean.Update (mean.Metric name.now value))) }
+        ensures refused { Refusing
+            (Tried self.now (mean.Update (mean.Metric name.now value)) NoEnd) self.now result }
+    {
+        let new = self.new_metrics(name, value)?;
+        Ok(Draft::Metrics(new))
+    }
+
+    // Drafts the window's first size, if there is room for its rows.
+    fn first_size_draft(&self, size: &WindowSize) -> Result<Draft, Refusal>
+        requires { has_size self.now.scene.held ≡ false }
+        ensures made { IfOk result
+            (IsDraft self.now (mean.Update (mean.Window size.now.width size.now.height))) }
+        ensures refused { Refusing
+            (TriedWindow self.now size.now.width size.now.height NoEnd) self.now result }
+    {
+        self.show_limits(); // for the proof: what a session keeps
+        if self.is_crowded(SIZE_ROWS as usize) {
+            return Err(Refusal::Limit(LimitWord::Rows));
+        }
+        let new = NewItem::size(self.alloc, self.scene.next_row(), size)?;
+        Ok(Draft::More(new))
+    }
+
+    // Drafts another size of the window than this, unless a constant moves too far.
+    fn later_size_draft(&self, held: HeldSize, size: &WindowSize) -> Result<Draft, Refusal>
+        requires { size_of self.now.scene.held ≡ Some (size_in held) }
+        ensures made { IfOk result
+            (IsDraft self.now (mean.Update (mean.Window size.now.width size.now.height))) }
+        ensures refused { Refusing
+            (TriedWindow self.now size.now.width size.now.height NoEnd) self.now result }
+    {
+        if !is_near_size(&held.size, size) {
+            return Err(Refusal::Limit(LimitWord::Constant));
+        }
+        Ok(Draft::Renewed(Renewal::Size(HeldSize {
+            size: *size,
+            ..held
+        })))
+    }
+
+    // Drafts this size of the window.
+    fn window_draft(&self, width: Frac, height: Frac) -> Result<Draft, Refusal>
+        ensures made { IfOk result (IsDraft self.now (mean.Update (mean.Window width height))) }
+        ensures refused { Refusing (Tried self.now (mean.Update (mean.Window width height)) NoEnd)
+            self.now result }
+    {
+        let size = WindowSize { width, height };
+        match self.scene.size() {
+            Some(held) => self.later_size_draft(held, &size),
+            None => self.first_size_draft(&size),
         }
     }
 
-    // The draft of a command by which something is wished of a view.
-    fn wish_draft(&self, command: &Command<'_>) -> Result<Option<Draft>, Refusal>
-        ensures made { IfOk result (λ o. IfSome o (IsDraft self.now (view command.now))) }
-        ensures none { IfOk result (λ o. IfNone o (IsWish (view command.now) → ⊥)) }
-        ensures refused { Refusing (Tried self.now (view command.now) NoEnd NoOther) self.now result }
+    // Drafts a linear constraint.
+    fn constraint_draft(&self, group: &str, line: &Linear<'_>) -> Result<Draft, Refusal>
+        ensures made { IfOk result
+            (IsDraft self.now (mean.Update (mean.Constrain group.now (linear_view line.now)))) }
+        ensures refused { Refusing
+            (TriedConstraint self.now group.now (linear_view line.now) NoEnd) self.now result }
     {
         self.show_limits(); // for the proof: what a session keeps
-        match command {
-            Command::Suggest {
+        let new = self.new_constraint(group, line)?;
+        Ok(Draft::More(new))
+    }
+
+    // Drafts a format.
+    fn format_draft(
+        &self,
+        group: &str,
+        align: Option<Align>,
+        format: &Format<'_>,
+    ) -> Result<Draft, Refusal>
+        ensures made { IfOk result
+            (IsDraft self.now (mean.Update (mean.Vfl group.now align (meaning format.now)))) }
+        ensures refused { Refusing
+            (TriedFormat self.now group.now align (meaning format.now) NoEnd) self.now result }
+    {
+        self.show_limits(); // for the proof: what a session keeps
+        let new = self.new_format(group, align, format)?;
+        Ok(Draft::More(new))
+    }
+
+    // Drafts a suggestion.
+    fn suggestion_draft(
+        &self,
+        name: &str,
+        word: AttrWord,
+        value: Frac,
+        priority: Option<Object<'_>>,
+    ) -> Result<Draft, Refusal>
+        ensures made { IfOk result
+            (IsDraft self.now (mean.Update (mean.Suggest name.now word value (object_view priority.entry)))) }
+        ensures refused { Refusing
+            (TriedSuggest self.now name.now word value (object_view priority.entry) NoEnd) self.now result }
+    {
+        self.show_limits(); // for the proof: what a session keeps
+        self.show_numbers(); // for the proof: what a scene keeps
+        match self.new_suggestion(name, word, value, priority)? {
+            NewSuggestion::First(new) => Ok(Draft::More(NewItem::suggestion(self.alloc, new)?)),
+            NewSuggestion::Again(again) => Ok(Draft::Renewed(Renewal::Suggestion(again))),
+        }
+    }
+
+    // Drafts the size that a view would like.
+    fn size_draft(&self, name: &str, size: &WindowSize, pulls: Pulls<'_>) -> Result<Draft, Refusal>
+        ensures made { IfOk result
+            (IsDraft self.now (mean.Update (mean.Size name.now size.now.width size.now.height
+            (object_view pulls.entry.hug) (object_view pulls.entry.resist)))) }
+        ensures refused { Refusing
+            (Tried self.now (mean.Update (mean.Size name.now size.now.width size.now.height
+            (object_view pulls.entry.hug) (object_view pulls.entry.resist))) NoEnd) self.now result }
+    {
+        self.show_limits(); // for the proof: what a session keeps
+        self.show_numbers(); // for the proof: what a scene keeps
+        match self.new_intrinsic(name, size, pulls)? {
+            NewIntrinsic::First(new) => Ok(Draft::More(NewItem::intrinsic(self.alloc, new)?)),
+            NewIntrinsic::Again(again) => Ok(Draft::Renewed(Renewal::Intrinsic(again))),
+        }
+    }
+
+    // Drafts the removal of a view and all that goes with it.
+    fn drop_draft(&self, name: &str) -> Result<Draft, Refusal>
+        ensures made { IfOk result (IsDraft self.now (mean.Leave (mean.Drop name.now))) }
+        ensures refused { Refusing (Tried self.now (mean.Leave (mean.Drop name.now)) NoEnd) self.now result }
+    {
+        let gone = self.going(name)?;
+        Ok(Draft::Out(Leaver::Views(gone)))
+    }
+
+    // Drafts the removal of a group's lines.
+    fn group_draft(&self, group: &str) -> Result<Draft, Refusal>
+        ensures made { IfOk result (IsDraft self.now (mean.Leave (mean.Remove group.now))) }
+        ensures refused { Refusing
+            (Tried self.now (mean.Leave (mean.Remove group.now)) NoEnd) self.now result }
+    {
+        let group = self.held_group(group)?;
+        Ok(Draft::Out(Leaver::Group(group)))
+    }
+
+    // Drafts the removal of a suggestion.
+    fn release_draft(&self, name: &str, word: AttrWord) -> Result<Draft, Refusal>
+        ensures made { IfOk result (IsDraft self.now (mean.Leave (mean.Release name.now word))) }
+        ensures refused { Refusing
+            (Tried self.now (mean.Leave (mean.Release name.now word)) NoEnd) self.now result }
+    {
+        let view = self.suggested(name, word)?;
+        Ok(Draft::Out(Leaver::Suggestion(view.0, word)))
+    }
+
+    // Drafts the removal of a view's size.
+    fn unsize_draft(&self, name: &str) -> Result<Draft, Refusal>
+        ensures made { IfOk result (IsDraft self.now (mean.Leave (mean.Unsize name.now))) }
+        ensures refused { Refusing
+            (Tried self.now (mean.Leave (mean.Unsize name.now)) NoEnd) self.now result }
+    {
+        let view = self.sized(name)?;
+        Ok(Draft::Out(Leaver::Intrinsic(view.0)))
+    }
+
+    // Drafts a scene that keeps a view.
+    fn keep_draft(&self, name: &str) -> Result<Draft, Refusal>
+        ensures made { IfOk result (IsDraft self.now (mean.Keep name.now)) }
+        ensures refused { Refusing (Tried self.now (mean.Keep name.now) NoEnd) self.now result }
+    {
+        let view = self.known(name)?;
+        Ok(Draft::Keep(view))
+    }
+
+    // Drafts new views.
+    fn coming_draft(&self, new: &Coming<'_>) -> Result<Draft, Refusal>
+        ensures made { IfOk result (IsDraft self.now (mean.Views (coming_view new.now))) }
+        ensures refused { Refusing (TriedViews self.now (coming_view new.now) NoEnd) self.now result }
+    {
+        match new {
+            Coming::View { name, parent } => self.view_draft(name, *parent),
+            Coming::Tree { text, start } => self.tree_draft(text, *start),
+        }
+    }
+
+    // Drafts something new, or another value.
+    fn updating_draft(&self, new: &Updating<'_>) -> Result<Draft, Refusal>
+        ensures made { IfOk result (IsDraft self.now (mean.Update (updating_view new.now))) }
+        ensures refused { Refusing (TriedUpdate self.now (updating_view new.now) NoEnd) self.now result }
+    {
+        match new {
+            Updating::Metric { name, value } => self.metric_draft(name, *value),
+            Updating::Window { width, height } => self.window_draft(*width, *height),
+            Updating::Constrain { group, line } => self.constraint_draft(group, line),
+            Updating::Vfl {
+                group,
+                align,
+                format,
+            } => self.format_draft(group, *align, format),
+            Updating::Suggest {
                 view,
                 word,
                 value,
                 priority,
-            } => {
-                let new = self.new_suggestion(view, *word, *value, *priority)?;
-                Ok(Some(Draft::Update(Update::Suggestion(new))))
-            }
-            Command::Size {
+            } => self.suggestion_draft(view, *word, *value, *priority),
+            Updating::Size {
                 name,
                 width,
                 height,
@@ -963,131 +1127,39 @@ impl Session {
                     hug: *hug,
                     resist: *resist,
                 };
-                let new = self.new_intrinsic(name, &size, pulls)?;
-                Ok(Some(Draft::Update(Update::Intrinsic(new))))
+                self.size_draft(name, &size, pulls)
             }
-            _ => Ok(None),
         }
     }
 
-    // The draft of a command after which something is held that wasn't, views left out.
-    fn update_draft(&self, command: &Command<'_>) -> Result<Option<Draft>, Refusal>
-        ensures made { IfOk result (λ o. IfSome o (IsDraft self.now (view command.now))) }
-        ensures none { IfOk result (λ o. IfNone o (kind_for (view command.now) ≡ Any → ⊥)) }
-        ensures refused { Refusing (Tried self.now (view command.now) NoEnd NoOther) self.now result }
+    // Drafts a removal.
+    fn leaving_draft(&self, gone: &Leaving<'_>) -> Result<Draft, Refusal>
+        ensures made { IfOk result (IsDraft self.now (mean.Leave (leaving_view gone.now))) }
+        ensures refused { Refusing (TriedLeave self.now (leaving_view gone.now) NoEnd) self.now result }
     {
-        self.show_limits(); // for the proof: what a session keeps
-        match command {
-            Command::Metric { name, value } => {
-                let new = self.new_metrics(name, *value)?;
-                Ok(Some(Draft::Update(Update::Metrics(new))))
-            }
-            Command::Window { width, height } => {
-                let size = self.new_size(*width, *height)?;
-                Ok(Some(Draft::Update(Update::Size(size))))
-            }
-            Command::Constrain { group, line } => {
-                let new = self.new_constraint(group, line)?;
-                Ok(Some(Draft::Update(Update::Line(new))))
-            }
-            Command::Vfl {
-                group,
-                align,
-                format,
-            } => {
-                let new = self.new_format(group, *align, format)?;
-                Ok(Some(Draft::Update(Update::Line(new))))
-            }
-            _ => self.wish_draft(command),
+        match gone {
+            Leaving::Drop { name } => self.drop_draft(name),
+            Leaving::Remove { group } => self.group_draft(group),
+            Leaving::Release { view, word } => self.release_draft(view, *word),
+            Leaving::Unsize { name } => self.unsize_draft(name),
         }
     }
 
-    // The draft of a command by which something is wished of a view no more.
-    fn unwish_draft(&self, command: &Command<'_>) -> Result<Option<Draft>, Refusal>
-        ensures made { IfOk result (λ o. IfSome o (IsDraft self.now (view command.now))) }
-        ensures none { IfOk result (λ o. IfNone o (IsUnwish (view command.now) → ⊥)) }
-        ensures refused { Refusing (Tried self.now (view command.now) NoEnd NoOther) self.now result }
+    // Drafts what a change asks of the scene, or finds the first cause against it.
+    fn draft(&self, change: &Change<'_>) -> Result<Draft, Refusal>
+        ensures made { IfOk result (IsDraft self.now (change_view change.now)) }
+        ensures refused { Refusing (Tried self.now (change_view change.now) NoEnd) self.now result }
     {
-        match command {
-            Command::Release { view, word } => {
-                let view = self.suggested(view, *word)?;
-                Ok(Some(Draft::SuggestionOut(view, *word)))
-            }
-            Command::Unsize { name } => {
-                let view = self.sized(name)?;
-                Ok(Some(Draft::IntrinsicOut(view)))
-            }
-            _ => Ok(None),
+        match change {
+            Change::Views(new) => self.coming_draft(new),
+            Change::Update(new) => self.updating_draft(new),
+            Change::Leave(gone) => self.leaving_draft(gone),
+            Change::Turn { to } => Ok(Draft::Turn(*to)),
+            Change::Keep { name } => self.keep_draft(name),
         }
     }
 
-    // The draft of a command after which something is held no more.
-    fn leaving_draft(&self, command: &Command<'_>) -> Result<Option<Draft>, Refusal>
-        ensures made { IfOk result (λ o. IfSome o (IsDraft self.now (view command.now))) }
-        ensures none { IfOk result (λ o. IfNone o (kind_for (view command.now) ≡ Left → ⊥)) }
-        ensures refused { Refusing (Tried self.now (view command.now) NoEnd NoOther) self.now result }
-    {
-        match command {
-            Command::Drop { name } => {
-                let gone = self.going(name)?;
-                Ok(Some(Draft::ViewsOut(gone)))
-            }
-            Command::Remove { group } => {
-                let group = self.held_group(group)?;
-                Ok(Some(Draft::GroupOut(group)))
-            }
-            _ => self.unwish_draft(command),
-        }
-    }
-
-    // The draft of a command after which the direction may be another.
-    fn turning_draft(&self, command: &Command<'_>) -> Option<Draft>
-        ensures made { IfSome result (IsDraft self.now (view command.now)) }
-        ensures none { IfNone result (kind_for (view command.now) ≡ Turned → ⊥) }
-    {
-        match command {
-            Command::Direction { to } => Some(Draft::Turn(*to)),
-            _ => None,
-        }
-    }
-
-    // The draft of a command by which a view is kept.
-    fn keeping_draft(&self, command: &Command<'_>) -> Result<Option<Draft>, Refusal>
-        ensures made { IfOk result (λ o. IfSome o (IsDraft self.now (view command.now))) }
-        ensures none { IfOk result (λ o. IfNone o (kind_for (view command.now) ≡ Kept → ⊥)) }
-        ensures refused { Refusing (Tried self.now (view command.now) NoEnd NoOther) self.now result }
-    {
-        match command {
-            Command::Keep { name } => {
-                let view = self.known(name)?;
-                Ok(Some(Draft::Keep(view)))
-            }
-            _ => Ok(None),
-        }
-    }
-
-    // What a command asks of the scene, if it asks for a step.
-    fn draft(&self, command: &Command<'_>) -> Result<Option<Draft>, Refusal>
-        ensures made { IfOk result (λ o. IfSome o (IsDraft self.now (view command.now))) }
-        ensures none { IfOk result (λ o. IfNone o (kind_for (view command.now) ≡ Plain)) }
-        ensures refused { Refusing (Tried self.now (view command.now) NoEnd NoOther) self.now result }
-    {
-        if let Some(draft) = self.views_draft(command)? {
-            return Ok(Some(draft));
-        }
-        if let Some(draft) = self.update_draft(command)? {
-            return Ok(Some(draft));
-        }
-        if let Some(draft) = self.leaving_draft(command)? {
-            return Ok(Some(draft));
-        }
-        if let Some(draft) = self.keeping_draft(command)? {
-            return Ok(Some(draft));
-        }
-        Ok(self.turning_draft(command))
-    }
-
-    // The step to a draft.
+    // Takes the scene's step to a draft.
     fn take(&mut self, draft: Draft) -> Result<Reply, Refusal>
         requires { MayTake self.old.scene draft }
         ensures accepted { Accepting
@@ -1096,95 +1168,71 @@ impl Session {
             (EndsAs self.old (kind_of draft) (drafted self.old.scene draft)) self.old result }
         ensures same { OnErr result (self.new ≡ self.old) }
     {
-        match draft {
-            Draft::Views(new) => {
-                let end = self.scene.take_views(new, self.budget);
-                answer_of(end)
-            }
-            Draft::Update(update) => {
-                let end = self.scene.update(update, self.budget);
-                answer_of(end)
-            }
-            Draft::ViewsOut(gone) => {
-                let end = self.scene.take_views_out(&gone, self.budget);
-                left_answer(end)
-            }
-            Draft::GroupOut(group) => {
-                let end = self.scene.take_group_out(group.bytes(), self.budget);
-                left_answer(end)
-            }
-            Draft::SuggestionOut(view, word) => {
-                let end = self.scene.take_suggestion_out(view, word, self.budget);
-                left_answer(end)
-            }
-            Draft::IntrinsicOut(view) => {
-                let end = self.scene.take_intrinsic_out(view, self.budget);
-                left_answer(end)
-            }
-            Draft::Turn(to) => {
-                self.scene.turn(to)?;
-                Ok(Reply::Done)
-            }
-            Draft::Keep(view) => {
-                let end = self.scene.keep_view(view, self.budget);
-                answer_of(end)
-            }
-        }
+        answer_of(self.scene.take(draft, self.budget))
     }
 
-    // The problem of a draft.
-    fn pose(&self, draft: Draft) -> Result<Problem, OutOfMemory>
-        requires { MayTake self.now.scene draft }
-        ensures { IfOk result (IsProblemOf (drafted self.now.scene draft)) }
+    // Makes a change.
+    fn change(&mut self, change: &Change<'_>) -> Result<Reply, Refusal>
+        ensures accepted { Accepting (ChangeStep self.old (change_view change.now)) self.new result }
+        ensures refused { Refusing (ChangeStep self.old (change_view change.now)) self.old result }
+        ensures same { OnErr result (self.new ≡ self.old) }
     {
-        match draft {
-            Draft::Views(new) => self.scene.views_problem(&new),
-            Draft::Update(update) => self.scene.update_problem(update),
-            Draft::ViewsOut(gone) => self.scene.left_problem(&gone),
-            Draft::GroupOut(group) => self.scene.group_problem(group.bytes()),
-            Draft::SuggestionOut(view, word) => self.scene.release_problem(view, word),
-            Draft::IntrinsicOut(view) => self.scene.unsized_problem(view),
-            Draft::Turn(_) => self.scene.turned_problem(),
-            Draft::Keep(view) => self.scene.kept_problem(view),
-        }
+        let draft = self.draft(change)?;
+        self.take(draft)
     }
 
-    // What is answered to a command that asks for no step.
-    fn answer(&mut self, command: &Command<'_>) -> Result<Reply, Refusal>
-        requires { kind_for (view command.now) ≡ Plain }
-        ensures accepted { Accepting (MeaningStep self.old (view command.now)) self.new result }
-        ensures refused { Refusing (MeaningStep self.old (view command.now)) self.old result }
+    // Answers another command.
+    fn answer(&mut self, command: &Plain) -> Result<Reply, Refusal>
+        ensures accepted { Accepting (PlainStep self.old (plain_view command.now)) self.new result }
+        ensures refused { Refusing (PlainStep self.old (plain_view command.now)) self.old result }
         ensures same { OnErr result (self.new ≡ self.old) }
     {
         match command {
-            Command::Nothing => Ok(Reply::Silent),
-            Command::Frames => Ok(Reply::Frames),
-            Command::Rows => Ok(Reply::Rows),
-            Command::Certify => self.certify(),
-            Command::Diagnose => self.diagnose(),
-            Command::Undo => self.take_back(),
-            Command::Budget { exchanges } => self.set_budget(*exchanges),
-            Command::Sweep { from, to } => self.sweep(*from, *to),
-            _ => unreachable!(),
+            Plain::Frames => Ok(Reply::Frames),
+            Plain::Rows => Ok(Reply::Rows),
+            Plain::Certify => self.certify(),
+            Plain::Diagnose => self.diagnose(),
+            Plain::Undo => self.take_back(),
+            Plain::Budget { exchanges } => self.set_budget(*exchanges),
+            Plain::Sweep { from, to } => self.sweep(*from, *to),
         }
     }
 
-    // The problem of a command that asks for no step, which is the scene's but for that of a sweep.
-    fn plain_problem(&self, command: &Command<'_>) -> Result<Problem, Refusal>
-        requires { kind_for (view command.now) ≡ Plain }
-        ensures posed { IfOk result (Poses self.now (view command.now)) }
-        ensures refused { Refusing (Tried self.now (view command.now) NoEnd NoOther) self.now result }
+    // Does what a command says.
+    fn act(&mut self, command: &Command<'_>) -> Result<Reply, Refusal>
+        ensures accepted { Accepting (CommandStep self.old (view command.now)) self.new result }
+        ensures refused { Refusing (CommandStep self.old (view command.now)) self.old result }
+        ensures same { OnErr result (self.new ≡ self.old) }
     {
         match command {
-            Command::Undo => self.undo_problem(),
-            Command::Budget { exchanges } => self.budget_problem(*exchanges),
-            Command::Sweep { from, to } => self.sweep_problem(*from, *to),
-            Command::Nothing
-            | Command::Frames
-            | Command::Rows
-            | Command::Diagnose
-            | Command::Certify => Ok(self.scene.problem()?),
-            _ => unreachable!(),
+            Command::Change(change) => self.change(change),
+            Command::Plain(other) => self.answer(other),
+        }
+    }
+
+    // The problem of the draft that a change asks for.
+    fn change_problem(&self, change: &Change<'_>) -> Result<Problem, Refusal>
+        ensures posed { IfOk result (PosesChange self.now (change_view change.now)) }
+        ensures refused { Refusing (Tried self.now (change_view change.now) NoEnd) self.now result }
+    {
+        let draft = self.draft(change)?;
+        Ok(self.scene.pose(draft)?)
+    }
+
+    // The scene's problem, if no cause is against the command; for a sweep with the stays at the present
+    // values.
+    fn present_problem(&self, command: &Plain) -> Result<Problem, Refusal>
+        ensures posed { IfOk result (Poses self.now (mean.Other (plain_view command.now))) }
+        ensures refused { Refusing
+            (IsRefused self.now (mean.Other (plain_view command.now))) self.now result }
+    {
+        match command {
+            Plain::Undo => self.undo_problem(),
+            Plain::Budget { exchanges } => self.budget_problem(*exchanges),
+            Plain::Sweep { from, to } => self.sweep_problem(*from, *to),
+            Plain::Frames | Plain::Rows | Plain::Diagnose | Plain::Certify => {
+                Ok(self.scene.problem()?)
+            }
         }
     }
 
@@ -1194,59 +1242,48 @@ impl Session {
     /// nothing holds, from copies of the rows.
     pub fn step_problem(&self, command: &Command<'_>) -> Result<Problem, Refusal>
         ensures posed { IfOk result (Poses self.now (view command.now)) }
-        ensures refused { Refusing (Tried self.now (view command.now) NoEnd NoOther) self.now result }
+        ensures refused { Refusing (IsRefused self.now (view command.now)) self.now result }
     {
-        match self.draft(command)? {
-            Some(draft) => Ok(self.pose(draft)?),
-            None => self.plain_problem(command),
+        match command {
+            Command::Change(change) => self.change_problem(change),
+            Command::Plain(other) => self.present_problem(other),
         }
     }
 
-    // Does what a command says.
-    fn act(&mut self, command: &Command<'_>) -> Result<Reply, Refusal>
-        ensures accepted { Accepting (MeaningStep self.old (view command.now)) self.new result }
-        ensures refused { Refusing (MeaningStep self.old (view command.now)) self.old result }
-        ensures same { OnErr result (self.new ≡ self.old) }
-    {
-        match self.draft(command)? {
-            Some(draft) => self.take(draft),
-            None => self.answer(command),
-        }
-    }
-
-    // What the required rows of a problem come to.
-    fn explained(&mut self, p: &Problem) -> Result<Reply, Refusal>
-        ensures accepted { Accepting (Explains self.old p.now) self.new result }
-        ensures refused { Refusing (Explains self.old p.now) self.old result }
+    // Finds whether a draft would conflict, and why.
+    fn explained(&mut self, draft: Draft) -> Result<Reply, Refusal>
+        requires { MayTake self.old.scene draft }
+        ensures accepted { Accepting (ExplainsDraft self.old (drafted self.old.scene draft)) self.new result }
+        ensures refused { Refusing (ExplainsDraft self.old (drafted self.old.scene draft)) self.old result }
         ensures same { self.new ≡ self.old }
     {
-        p.show_whole(); // for the proof: what a problem keeps
-        match self.scene.core(p, self.budget) {
+        match self.scene.core(draft, self.budget) {
             Ok(found) => Ok(Reply::Why(found)),
             Err(stop) => Err(core_refusal(stop)),
         }
     }
 
-    // Why a command would clash, if it would.
-    fn explain(&mut self, command: &Command<'_>) -> Result<Reply, Refusal>
-        ensures accepted { Accepting (WhyStep self.old (view command.now)) self.new result }
-        ensures refused { Refusing (WhyStep self.old (view command.now)) self.old result }
+    // Finds whether a change would conflict, and why.
+    fn explain(&mut self, change: &Change<'_>) -> Result<Reply, Refusal>
+        ensures accepted { Accepting (WhyStep self.old (change_view change.now)) self.new result }
+        ensures refused { Refusing (WhyStep self.old (change_view change.now)) self.old result }
         ensures same { self.new ≡ self.old }
     {
-        let problem = self.step_problem(command)?;
-        self.explained(&problem)
+        let draft = self.draft(change)?;
+        self.explained(draft)
     }
 
-    /// Does what a line says: the step of the machine. What is asked changes nothing. After a refusal all is
-    /// as before.
+    /// Does what a line says: the step of the machine. A question changes nothing. After a refusal all is as
+    /// before.
     pub fn apply(&mut self, reading: Reading<'_>) -> Result<Reply, Refusal>
         ensures accepted { Accepting (SaidStep self.old (reading_view reading.entry)) self.new result }
         ensures refused { Refusing (SaidStep self.old (reading_view reading.entry)) self.old result }
         ensures same { OnErr result (self.new ≡ self.old) }
     {
         match &reading {
+            Reading::Nothing => Ok(Reply::Silent),
             Reading::Command(command) => self.act(command),
-            Reading::Why(command) => self.explain(command),
+            Reading::Why(change) => self.explain(change),
         }
     }
 

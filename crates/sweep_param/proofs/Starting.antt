@@ -12,7 +12,7 @@ use Rattle.cert_core.specs.Stops.{IsStopOf}
 use Rattle.cert_core.specs.declared.stops.RunStop.{RunStop}
 use Rattle.cert_core.specs.declared.stops.RunStop.TheVariants.{Conflict, Unfit, Spent, OutOfMemory}
 use Rattle.corner.specs.Changes.{FromAdded}
-use Rattle.corner.specs.Views.{CornerView}
+use Rattle.corner.specs.Views.{CornerView, IsKeptCorner, in_order}
 use Rattle.corner_ends.specs.Runs.{HasEnded, IsBestEnd}
 use Rattle.corner_ends.specs.Trails.{IsNoConflict}
 use Rattle.layout_solver.specs.Starts.{HasAdded, as_problem}
@@ -40,10 +40,15 @@ parts_stop p rows stays budget stop e f h =
     subst (λ (ss : List Stay). IsStopOf false (as_problem p.rows ss) [] (FromAdded (as_problem p.rows ss) [] p.rows) budget stop) f
     (subst (λ (rs : List Row). IsStopOf false (as_problem rs stays) [] (FromAdded (as_problem rs stays) [] rs) budget stop) e h)
 
-pub parts_started : (p : Problem) (rows : List Row) (stays : List Stay) (budget : ℕ) (c : CornerView) → rows ≡ p.rows → stays ≡ p.stays → c.problem ≡ as_problem rows stays → HasEnded c → HasAdded (as_problem rows stays) [] rows budget c.marks → IsStarted p budget c.marks
-parts_started p rows stays budget c e f is ended h =
+pub parts_started : (p : Problem) (rows : List Row) (stays : List Stay) (budget : ℕ) (c : CornerView) → rows ≡ p.rows → stays ≡ p.stays → c.problem ≡ as_problem rows stays → IsKeptCorner c.problem c.marks → HasEnded c → HasAdded (as_problem rows stays) [] rows budget c.marks → IsStarted p budget c.marks
+parts_started p rows stays budget c e f is corner ended h =
     let same : c.problem ≡ p = is ∙ ap₂ as_problem e f in
     let run : HasAdded p [] p.rows budget c.marks =
     subst (λ (ss : List Stay). HasAdded (as_problem p.rows ss) [] p.rows budget c.marks) f
     (subst (λ (rs : List Row). HasAdded (as_problem rs stays) [] rs budget c.marks) e h) in
-    record { best = subst (λ (q : Problem). IsBestEnd q c.marks) same ended.end; path = run.0; run_is = run.1 }
+    record {
+      best = subst (λ (q : Problem). IsBestEnd q c.marks) same ended.end;
+      ordered = subst (λ (q : Problem). c.marks ≡ in_order q c.marks) same corner.ordered;
+      path = run.0;
+      run_is = run.1;
+    }

@@ -11,6 +11,7 @@ use Rattle.cert_core.specs.Paths.{Path}
 use Rattle.cert_core.specs.Stops.{IsStopOf}
 use Rattle.cert_core.specs.declared.stops.RunStop.TheVariants as run
 use Rattle.corner.specs.Changes.{FromAdded}
+use Rattle.corner.specs.Views.{in_order}
 use Rattle.corner_ends.specs.Runs.{IsBestEnd, IsRun}
 use Rattle.sweep_laws.specs.Stops.{HasConstant, IsSlideEnd, IsSlideFar, IsSlideSpent, IsSlideUnfit}
 use Rattle.sweep_run.specs.declared.stretches.SweepQuantity.TheVariants.{At, Breakpoint}
@@ -42,9 +43,10 @@ IsStartStop p present budget (Unfit width path (Breakpoint m)) = ⊥
 IsStartStop p present budget (Spent width path) = (width ≡ present) × IsStartSpent p budget path
 IsStartStop p present budget OutOfMemory = Unit {0}
 
--- the corner that the start found: a lawful run from nothing leads there
+-- the corner that the start found, its marks in order: a lawful run from nothing leads there
 pub record IsStarted (p : Problem) (budget : ℕ) (kept : List Mark) : Type 0 where
   pub best : IsBestEnd p kept
+  pub ordered : kept ≡ in_order p kept
   pub path : Path
   pub run_is : IsRun false p (FromAdded p [] p.rows []) budget kept path
 

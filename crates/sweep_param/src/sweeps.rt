@@ -179,7 +179,10 @@ fn start(alloc: Global, p: &Problem, range: &Range) -> Result<Corner, SweepStop>
 {
     p.show_whole(); // for the proof: what a problem keeps
     match started(alloc, p.stays(), p.rows(), range.budget) {
-        Ok(corner) => Ok(corner),
+        Ok(corner) => {
+            corner.show_corner(); // for the proof: what a corner keeps
+            Ok(corner)
+        }
         Err(stop) => Err(run_stop(range.present, stop)),
     }
 }

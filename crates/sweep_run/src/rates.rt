@@ -4,16 +4,15 @@ ghost use Rattle.frac_core.specs.Fraction.{IsFitting, IsKept, IsRatio, IsUnfitRa
 ghost use Rattle.problem_core.specs.Corners as corners;
 ghost use Rattle.problem_core.specs.Corners.{IsIn, NoNegativeValue};
 ghost use Rattle.problem_core.specs.declared.stops.What.TheVariants.{Mark as MarkOf};
-ghost use Rattle.corner.specs.Views.{IsNamed, IsWritten};
+ghost use Rattle.corner_ends.specs.Views.{IsNamed, IsWritten};
 ghost use Rattle.dual_run.specs.Leaving.{AreLowLines, IsLow};
 ghost use Rattle.sweep_run.specs.Ways.{HasReached, IsAtEnd, IsBackRate, IsBetterOf, IsCrossing, IsFarther};
 ghost use Rattle.sweep_run.specs.Ways.{IsOther, IsSoonest};
 
 use crate::ways::Way;
-use corner::Corner;
-use corner_ends::product;
+use corner_ends::Corner;
 use dual_run::low_of;
-use frac_core::{Frac, Unfit, cmp_wide};
+use frac_core::{Frac, Unfit, cmp_wide, product};
 use problem_core::{Mark, RowName, What};
 use std::cmp::Ordering;
 

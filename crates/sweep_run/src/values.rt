@@ -3,14 +3,14 @@ ghost use Rattle.std.specs.Prelude.{All, IfOk, IfErr};
 ghost use Rattle.frac_core.specs.Fraction.{IsKept};
 ghost use Rattle.problem_core.specs.Layout.{HasStay};
 ghost use Rattle.problem_core.specs.Corners.{attr_column};
-ghost use Rattle.corner.specs.Views.{HasValueAt};
+ghost use Rattle.corner_ends.specs.Views.{HasValueAt};
 ghost use Rattle.corner_lines.specs.Shifts.{with_constant};
 ghost use Rattle.sweep_run.specs.Values.{AreListed, AreValuesAt};
 ghost use Rattle.sweep_run.specs.Ways.{IsAtEnd, IsPlace, IsUnfitStopThere};
 
 use crate::rates::{rate_of, value_back};
 use crate::ways::{Place, Way};
-use corner::Corner;
+use corner_ends::Corner;
 use frac_core::{Frac, OutOfMemory, Stop};
 use problem_core::{Values, What, numbers_of};
 use std::alloc::Global;

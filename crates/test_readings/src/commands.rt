@@ -2,8 +2,8 @@
 use crate::formats::{put_stop, put_written};
 use frac_core::{Frac, OutOfMemory};
 use script_text::{
-    Align, AttrWord, Command, Direction, ExprTerm, Linear, Operand, Reading, Version,
-    is_version_line, read_line_in,
+    Align, AttrWord, Change, Coming, Command, Direction, ExprTerm, Leaving, Linear, Operand, Plain,
+    Reading, Updating, Version, is_version_line, read_line_in,
 };
 use span_text::{Object, UNIT};
 use std::alloc::Global;
@@ -193,28 +193,34 @@ fn put_pulls(
     Ok(writeln!(out)?)
 }
 
-// The word of a command that has no other.
-fn lone_word(command: &Command<'_>) -> &'static str {
-    match command {
-        Command::Nothing => "nothing",
-        Command::Undo => "undo",
-        Command::Frames => "frames",
-        Command::Rows => "rows",
-        Command::Diagnose => "diagnose",
-        Command::Certify => "certify",
-        _ => "another",
-    }
-}
-
 fn put_lone(out: &mut String, word: &str) -> Result<(), OutOfMemory> {
     Ok(writeln!(out, "{word}")?)
 }
 
-// Appends the reading of a line that version 2 has besides, or of a word alone.
-fn put_later(out: &mut String, command: &Command<'_>) -> Result<(), OutOfMemory> {
-    match command {
-        Command::Direction { to } => put_named(out, "direction", direction_name(*to)),
-        Command::Size {
+fn put_coming(out: &mut String, new: &Coming<'_>) -> Result<(), OutOfMemory> {
+    match new {
+        Coming::View { name, parent } => put_view(out, name, *parent),
+        Coming::Tree { text, start } => put_tree(out, text, *start),
+    }
+}
+
+fn put_updating(alloc: Global, out: &mut String, new: &Updating<'_>) -> Result<(), OutOfMemory> {
+    match new {
+        Updating::Metric { name, value } => put_metric(out, name, *value),
+        Updating::Window { width, height } => put_numbers(out, "window", *width, *height),
+        Updating::Vfl {
+            group,
+            align,
+            format,
+        } => put_vfl(alloc, out, group, *align, format),
+        Updating::Constrain { group, line } => put_constraint(out, group, line),
+        Updating::Suggest {
+            view,
+            word,
+            value,
+            priority,
+        } => put_suggestion(out, view, *word, *value, *priority),
+        Updating::Size {
             name,
             width,
             height,
@@ -224,60 +230,55 @@ fn put_later(out: &mut String, command: &Command<'_>) -> Result<(), OutOfMemory>
             put_wish(out, name, *width, *height)?;
             put_pulls(out, *hug, *resist)
         }
-        Command::Unsize { name } => put_named(out, "unsize", name),
-        Command::Keep { name } => put_named(out, "keep", name),
-        Command::Sweep { from, to } => put_sweep(out, *from, *to),
-        _ => put_lone(out, lone_word(command)),
     }
 }
 
-// Appends the reading of a line with a format or a sum, with a count, or of a later line.
-fn put_larger(alloc: Global, out: &mut String, command: &Command<'_>) -> Result<(), OutOfMemory> {
-    match command {
-        Command::Vfl {
-            group,
-            align,
-            format,
-        } => put_vfl(alloc, out, group, *align, format),
-        Command::Constrain { group, line } => put_constraint(out, group, line),
-        Command::Budget { exchanges } => put_budget(out, *exchanges),
-        _ => put_later(out, command),
+fn put_leaving(out: &mut String, gone: &Leaving<'_>) -> Result<(), OutOfMemory> {
+    match gone {
+        Leaving::Drop { name } => put_named(out, "drop", name),
+        Leaving::Remove { group } => put_named(out, "remove", group),
+        Leaving::Release { view, word } => put_release(out, view, *word),
+        Leaving::Unsize { name } => put_named(out, "unsize", name),
     }
 }
 
-// Appends the reading of a line about values.
-fn put_value(alloc: Global, out: &mut String, command: &Command<'_>) -> Result<(), OutOfMemory> {
+fn put_change(alloc: Global, out: &mut String, change: &Change<'_>) -> Result<(), OutOfMemory> {
+    match change {
+        Change::Views(new) => put_coming(out, new),
+        Change::Update(new) => put_updating(alloc, out, new),
+        Change::Leave(gone) => put_leaving(out, gone),
+        Change::Turn { to } => put_named(out, "direction", direction_name(*to)),
+        Change::Keep { name } => put_named(out, "keep", name),
+    }
+}
+
+fn put_plain(out: &mut String, command: &Plain) -> Result<(), OutOfMemory> {
     match command {
-        Command::Metric { name, value } => put_metric(out, name, *value),
-        Command::Window { width, height } => put_numbers(out, "window", *width, *height),
-        Command::Suggest {
-            view,
-            word,
-            value,
-            priority,
-        } => put_suggestion(out, view, *word, *value, *priority),
-        Command::Release { view, word } => put_release(out, view, *word),
-        _ => put_larger(alloc, out, command),
+        Plain::Undo => put_lone(out, "undo"),
+        Plain::Budget { exchanges } => put_budget(out, *exchanges),
+        Plain::Frames => put_lone(out, "frames"),
+        Plain::Rows => put_lone(out, "rows"),
+        Plain::Diagnose => put_lone(out, "diagnose"),
+        Plain::Certify => put_lone(out, "certify"),
+        Plain::Sweep { from, to } => put_sweep(out, *from, *to),
     }
 }
 
 fn put_command(alloc: Global, out: &mut String, command: &Command<'_>) -> Result<(), OutOfMemory> {
     match command {
-        Command::View { name, parent } => put_view(out, name, *parent),
-        Command::Tree { text, start } => put_tree(out, text, *start),
-        Command::Drop { name } => put_named(out, "drop", name),
-        Command::Remove { group } => put_named(out, "remove", group),
-        _ => put_value(alloc, out, command),
+        Command::Change(change) => put_change(alloc, out, change),
+        Command::Plain(command) => put_plain(out, command),
     }
 }
 
-// Appends the reading of a command, or of a question about one.
+// Appends the reading of a line: nothing, a command, or a question about a change.
 fn put_reading(alloc: Global, out: &mut String, reading: &Reading<'_>) -> Result<(), OutOfMemory> {
     match reading {
+        Reading::Nothing => put_lone(out, "nothing"),
         Reading::Command(command) => put_command(alloc, out, command),
-        Reading::Why(command) => {
+        Reading::Why(change) => {
             write!(out, "why ")?;
-            put_command(alloc, out, command)
+            put_change(alloc, out, change)
         }
     }
 }

@@ -7,7 +7,9 @@ use format_compile::{compile_format, format_row_count};
 use frac_core::{Frac, OutOfMemory, Stop};
 use name_tables::LimitWord;
 use problem_core::Row;
-use script_text::{Align, Command, Direction, Linear, Reading, Version, read_line_in};
+use script_text::{
+    Align, Change, Coming, Command, Direction, Linear, Reading, Updating, Version, read_line_in,
+};
 use span_text::SyntaxAt;
 use std::alloc::Global;
 use vfl_text::Format;
@@ -139,24 +141,36 @@ fn put_another(out: &mut String) -> Result<usize, OutOfMemory> {
     Ok(0)
 }
 
-// What a command leads to: a view, a metric, a direction, or the rows of a line, of which it says how many
-// there are.
-fn put_command(
+// What such a change leads to: a metric, or the rows of a line, of which it says how many there are.
+fn put_updating(
     alloc: Global,
     out: &mut String,
     setting: &mut Setting,
-    command: &Command<'_>,
+    new: &Updating<'_>,
 ) -> Result<usize, OutOfMemory> {
-    match command {
-        Command::View { name, parent } => put_view(out, setting, name, *parent),
-        Command::Metric { name, value } => put_metric(out, setting, name, *value),
-        Command::Vfl {
+    match new {
+        Updating::Metric { name, value } => put_metric(out, setting, name, *value),
+        Updating::Vfl {
             group: _,
             align,
             format,
         } => put_format(alloc, out, setting, *align, format),
-        Command::Constrain { group: _, line } => put_linear(alloc, out, setting, line),
-        Command::Direction { to } => Ok(turn(setting, *to)),
+        Updating::Constrain { group: _, line } => put_linear(alloc, out, setting, line),
+        _ => put_another(out),
+    }
+}
+
+// What a change leads to: a view, a direction, or what an update leads to.
+fn put_change(
+    alloc: Global,
+    out: &mut String,
+    setting: &mut Setting,
+    change: &Change<'_>,
+) -> Result<usize, OutOfMemory> {
+    match change {
+        Change::Views(Coming::View { name, parent }) => put_view(out, setting, name, *parent),
+        Change::Update(new) => put_updating(alloc, out, setting, new),
+        Change::Turn { to } => Ok(turn(setting, *to)),
         _ => put_another(out),
     }
 }
@@ -176,8 +190,8 @@ fn put_line(
     before: usize,
 ) -> Result<usize, OutOfMemory> {
     match read_line_in(alloc, line, Version::Two) {
-        Ok(Reading::Command(command)) => put_command(alloc, out, setting, &command),
-        Ok(Reading::Why(_)) => put_another(out),
+        Ok(Reading::Command(Command::Change(change))) => put_change(alloc, out, setting, &change),
+        Ok(_) => put_another(out),
         Err(Stop::Refused(SyntaxAt(at))) => put_outside(out, at.saturating_sub(before)),
         Err(Stop::OutOfMemory) => Err(OutOfMemory),
     }

@@ -3,7 +3,7 @@ use crate::tested::push_reply;
 use claim_writing::problem_text;
 use frac_core::OutOfMemory;
 use problem_core::Problem;
-use script_text::{Command, Reading, read_line_in};
+use script_text::{Command, Plain, Reading, read_line_in};
 use session_undo::{Refusal, Session};
 use std::alloc::Global;
 use test_runs::{Answer, Kind};
@@ -50,22 +50,25 @@ fn problem_for(
     }
 }
 
-// The problem of the command that is said, or of which something is asked.
+// The problem of the command that is said, or of the change of which something is asked. A blank line poses
+// the scene's problem, as `frames` does.
 fn problem_said(
     alloc: Global,
     session: &Session,
-    reading: &Reading<'_>,
+    reading: Reading<'_>,
 ) -> Result<Answer, OutOfMemory> {
-    match reading {
-        Reading::Command(command) => problem_for(alloc, session, command),
-        Reading::Why(command) => problem_for(alloc, session, command),
-    }
+    let command = match reading {
+        Reading::Nothing => Command::Plain(Plain::Frames),
+        Reading::Command(command) => command,
+        Reading::Why(change) => Command::Change(change),
+    };
+    problem_for(alloc, session, &command)
 }
 
 /// The problem that a line would solve, or why it is refused before.
 pub fn problem(alloc: Global, session: &Session, line: &str) -> Result<Answer, OutOfMemory> {
     match read_line_in(alloc, line.as_bytes(), session.version()) {
-        Ok(reading) => problem_said(alloc, session, &reading),
+        Ok(reading) => problem_said(alloc, session, reading),
         Err(_) => Ok(Answer::new(alloc, Kind::Outside)),
     }
 }

@@ -5,14 +5,12 @@ use Rattle.std.proofs.Math.ListN.{get_or-append, get_or-map}
 use Rattle.std.proofs.Math.Seq.{get_or-append_seam}
 use Rattle.std.proofs.lemmas.List.{take_more, map_push, length-map}
 use Rattle.std.proofs.lemmas.List.Elements.{All-push}
-use Rattle.frac_core.specs.Fraction.{Fraction}
 use Rattle.problem_core.specs.Layout.{Row}
 use Rattle.view_tree.specs.declared.view.ViewId.{ViewId}
-use Rattle.compile_parts.specs.Fractions.{IsConstant}
 use Rattle.compile_parts.specs.Meaning.{MetricList}
 use Rattle.constraint_compile.specs.Compiled as compiled
-use Rattle.compile_parts.specs.Steps.{AreSmallSteps, step_sum, last_scale}
-use Rattle.constraint_compile.specs.Compiled.{AreSmallForms, AreRowsNow, AreConstantsNow, IsRowNow}
+use Rattle.compile_parts.specs.Steps.{AreSmallSteps}
+use Rattle.constraint_compile.specs.Compiled.{AreSmallForms, AreRowsNow, IsRowNow}
 use Rattle.constraint_compile.specs.Inside.{form_view}
 use Rattle.constraint_compile.specs.declared.compiled.RowForm.{RowForm}
 use Rattle.frac_core.proofs.Numbers.{less-or-here as lt_or_eq}
@@ -23,10 +21,6 @@ any_number (v ∷ views) n = ap (λ (b : Bool). nat_eq v.0 n || b) (any_number v
 
 pub taken : (forms : List RowForm) (i : ℕ) (t : RowForm) → i < length forms → t ≡ get_or forms i t → map form_view (take (i + 1) forms) ≡ map form_view (take i forms) ++ form_view t ∷ []
 taken forms i t within is = ap (map form_view) (take_more forms i t within ∙ ap (λ (x : RowForm). take i forms ++ x ∷ []) (sym is)) ∙ map_push form_view (take i forms) t
-
-pub same_more : (forms same : List RowForm) (i : ℕ) (t x : RowForm) → i < length forms → t ≡ get_or forms i t → form_view x ≡ form_view t → map form_view same ≡ map form_view (take i forms) → map form_view (same ++ x ∷ []) ≡ map form_view (take (i + 1) forms)
-same_more forms same i t x within is here before =
-    map_push form_view same x ∙ ap (λ (fs : List compiled.RowForm). fs ++ form_view x ∷ []) before ∙ ap (λ (f : compiled.RowForm). map form_view (take i forms) ++ f ∷ []) here ∙ sym (taken forms i t within is)
 
 pub form_small : (metrics : MetricList) (forms : List RowForm) (i : ℕ) (t : RowForm) → i < length forms → t ≡ get_or forms i t → AreSmallForms metrics (map form_view forms) → AreSmallSteps metrics (form_view t).steps
 form_small metrics forms i t within is small =
@@ -53,13 +47,5 @@ pub rows_more : (metrics : MetricList) (forms : List RowForm) (rows : List Row) 
 rows_more metrics forms rows i t r within is here small are = subst (λ (fs : List compiled.RowForm). AreRowsNow metrics fs (rows ++ r ∷ [])) (sym (taken forms i t within is)) (record {
   long = longer (map form_view (take i forms)) rows (form_view t) r are.long;
   each = pairs_more (IsRowNow metrics) (map form_view (take i forms)) rows (form_view t) r are.long are.each here;
-  small = All-push (λ (f : compiled.RowForm). AreSmallSteps metrics f.steps) (map form_view (take i forms)) (form_view t) are.small small;
-})
-
-pub constants_more : (metrics : MetricList) (forms : List RowForm) (constants : List Fraction) (i : ℕ) (t : RowForm) (c : Fraction) → i < length forms → t ≡ get_or forms i t → IsConstant (last_scale (form_view t).steps) (step_sum metrics (form_view t).steps) c → AreSmallSteps metrics (form_view t).steps
-    → AreConstantsNow metrics (map form_view (take i forms)) constants → AreConstantsNow metrics (map form_view (take (i + 1) forms)) (constants ++ c ∷ [])
-constants_more metrics forms constants i t c within is here small are = subst (λ (fs : List compiled.RowForm). AreConstantsNow metrics fs (constants ++ c ∷ [])) (sym (taken forms i t within is)) (record {
-  long = longer (map form_view (take i forms)) constants (form_view t) c are.long;
-  each = pairs_more (λ (f : compiled.RowForm) (q : Fraction). IsConstant (last_scale f.steps) (step_sum metrics f.steps) q) (map form_view (take i forms)) constants (form_view t) c are.long are.each here;
   small = All-push (λ (f : compiled.RowForm). AreSmallSteps metrics f.steps) (map form_view (take i forms)) (form_view t) are.small small;
 })

@@ -12,7 +12,7 @@ ghost use Rattle.constraint_compile.specs.Coefficients.Sums.{AreDivided, IsPast,
 ghost use Rattle.constraint_compile.specs.Coefficients.Sums.{number_at};
 ghost use Rattle.constraint_compile.specs.Coefficients.Sums.{with_share_number};
 
-use compile_parts::{Doubled, Share, product, total};
+use compile_parts::{EdgeAndSize, Share, product, total};
 use frac_core::{Frac, OutOfMemory, gcd, quotient};
 use problem_core::{COEFFICIENT_LIMIT, Term};
 use std::alloc::Global;
@@ -34,7 +34,7 @@ fn at(term: Term, attr: u32) -> i64
 }
 
 /// How many halves of an attribute there are.
-pub(crate) fn halves(of: &Doubled, attr: u32) -> i64
+pub(crate) fn halves(of: &EdgeAndSize, attr: u32) -> i64
     requires { AreHalves of.now }
     ensures value { result ≡ coefficient attr (form of.now) }
     ensures small { unsigned_abs result ≤ 4 }
@@ -74,7 +74,7 @@ pub(crate) fn times_halves(num: i64, halves: i64) -> i64
 }
 
 // So many halves over the scale.
-fn scaled_halves(of: &Doubled, attr: u32, scale: u32) -> i64
+fn scaled_halves(of: &EdgeAndSize, attr: u32, scale: u32) -> i64
     requires halves { AreHalves of.now }
     requires scale { scale ≤ COEFFICIENT_LIMIT }
     ensures value { result ≡ pos scale *ℤ coefficient attr (form of.now) }

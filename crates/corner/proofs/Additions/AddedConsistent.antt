@@ -6,7 +6,7 @@ use Rattle.corner_table.specs.Tables.{Lists, problem_of, line_slot, row_at, stan
 use Rattle.corner_table.specs.Tables.{marks_at}
 use Rattle.corner_joins.proofs.Costs.CostLines.{row_among}
 use Rattle.corner_table.proofs.Readings.MarkingFacts.{append_more}
-use Rattle.indexed_rows.proofs.Indexing.{number_at_column}
+use Rattle.version_lists.proofs.Indexing.{number_at_column}
 use Rattle.problem_core.specs.declared.parts.RowName.TheVariants.{Held}
 use Rattle.corner_table.specs.Kept.{IsKept, IsLineSlot, IsSlot}
 use Rattle.problem_core.specs.declared.parts.Rel.{Rel}
@@ -36,7 +36,7 @@ use Rattle.corner_table.specs.Histories.{AreAlike, lists_before}
 use Rattle.corner_table.specs.Joining.{slot_of_row}
 use Rattle.corner_joins.proofs.Attributes.AttrJoins.{nowhere}
 use Rattle.corner_writings.proofs.Readings.FreeSlots.{line_named}
-use Rattle.corner.proofs.Swaps.NextConsistent.{were_listed}
+use Rattle.corner_exchange.proofs.Swaps.ListedSlots.{were_listed}
 use Rattle.corner_joins.proofs.Additions.PartFacts.{kept_part}
 use Rattle.corner.proofs.Additions.JoinedCandidates.{joined_candidates}
 use Rattle.frac_core.proofs.Lists.{each-at as contained, each-of as each-contained}

@@ -7,8 +7,6 @@ use lib.IntN.{*ℤ_comm}
 use borrow.Author.Differences.{ints}
 use Rattle.frac_core.proofs.Integers.{mul-zero_ℤ, sign_cases, zero-add_ℤ, zero_from_mul}
 use Rattle.problem_core.specs.declared.parts.Mark.{Mark}
-use Rattle.problem_core.specs.declared.parts.Rel.{Rel}
-use Rattle.problem_core.specs.declared.parts.Rel.TheVariants.{Eq, Le, Ge}
 use Rattle.problem_core.specs.declared.parts.RowName.{RowName}
 use Rattle.problem_core.specs.declared.parts.RowName.TheVariants.{Held, Stay as StayOf}
 use Rattle.problem_core.specs.declared.parts.Side.{Side}
@@ -37,7 +35,7 @@ use Rattle.corner_joins.specs.Additions.JoinedLists.{AreRowsListed, IsFreeRow, I
 use Rattle.corner.proofs.Attributes.AttrColumns.{negative_mark}
 use Rattle.corner.proofs.Swaps.CandidatesAfter.{listed_name}
 use Rattle.corner_lines.proofs.LevelRows.OtherNumbers.{other-number}
-use Rattle.corner.proofs.Swaps.ColumnReturns.{inside_not_negative, negative-line, returned, unmoved-column}
+use Rattle.corner_exchange.proofs.Swaps.ColumnReturns.{free-side, inside_not_negative, negative-line, returned, unmoved-column}
 use Rattle.corner_table.proofs.Basics.ListFacts.{from_map, to_map}
 use Rattle.corner_table.proofs.Readings.MarkFacts.{inside_stands}
 use Rattle.corner_table.proofs.Readings.ReadFacts.{is_some, mark_named}
@@ -83,14 +81,6 @@ record IsWithout (q : Problem) (next : List Mark) (rows : List Row) (m : Multipl
   cancel : (level v : ℕ) → sum_of (λ l. m.times level l.name *ℤ layout.coefficient v l.form) (lines q) ≡ pos 0
   inside_zero : (side : Side) → All (λ l. Each (λ (r : Row). l.name ≢ Held r.id) rows → IsIn (place_of l.name side) next → (level : ℕ) → column m side l level ≡ pos 0) (lines q)
   none : Each (λ (r : Row). (level : ℕ) → m.times level (Held r.id) ≡ pos 0) rows
-
-pub free-side : (rel : Rel) (side : Side) (n : ℕ) → side_share rel side 1 ≡ 0 → side_share rel side n ≡ 0
-free-side Eq Under n e = absurd (omega (arith, e))
-free-side Eq Over n e = absurd (omega (arith, e))
-free-side Le Under n e = refl
-free-side Le Over n e = absurd (omega (arith, e))
-free-side Ge Under n e = absurd (omega (arith, e))
-free-side Ge Over n e = refl
 
 less-none : (n : ℕ) (z : ℤ) → n ≡ 0 → pos n -ℤ z ≡ pos 0 → z ≡ pos 0
 less-none n z e h = omega (arith, ints, e, h)

@@ -7,24 +7,19 @@ use Rattle.problem_core.specs.declared.parts.Mark.{Mark}
 use Rattle.problem_core.specs.declared.parts.Side.{Side}
 use Rattle.problem_core.specs.declared.parts.Side.TheVariants.{Under, Over}
 use Rattle.problem_core.specs.declared.parts.Stay.{Stay}
-use Rattle.problem_core.specs.declared.parts.Term.{Term}
 use Rattle.problem_core.specs.declared.parts.RowName.TheVariants.{Stay as StayOf}
 use Rattle.problem_core.specs.Layout.{HasStay, Line, Problem, Row, coefficient, line_of_row, lines, stay_lines, sum_of}
 use Rattle.problem_core.specs.Kept.{IsWhole}
 use Rattle.problem_core.specs.Certificates.{Multipliers}
 use Rattle.problem_core.specs.Corners.{AreMultipliersAt, HasNegativeColumn, IsIn, IsLexNegative, column, marks_of, place, place_of}
 use Rattle.corner_lines.specs.Joins.{with_attr}
+use Rattle.corner_leaving.proofs.Attributes.DroppedAttrLevels.{absent, one_time}
 use Rattle.corner.specs.Views.{IsMarkOf}
 use Rattle.corner_joins.proofs.Attributes.AttrJoins.{lines_more, new_line}
-use Rattle.corner_exchange.proofs.Basics.SmallFacts.{own_stay}
+use Rattle.corner_table.proofs.Basics.SmallFacts.{own_stay}
 use Rattle.corner_joins.proofs.Attributes.AttrLevels.{each_old, sum_push}
 
 -- ---- the new attribute stands in no line before
-
-pub absent : (v : ℕ) (form : List Term) → All (λ e. e.attr ≢ v) form → coefficient v form ≡ pos 0
-absent v [] h = refl
-absent v (e ∷ es) h =
-    ap₂ (λ (b : Bool) (z : ℤ). cond b e.by (pos 0) +ℤ z) (ne_eqb e.attr v (h zero e (omega arith))) (absent v es (λ k x lt. h (suc k) x (omega (arith, lt))))
 
 stays_absent : (attr level : ℕ) (stays : List Stay) → All (λ (s : Stay). s.attr ≢ attr) stays → All (λ l. coefficient attr l.form ≡ pos 0) (stay_lines level stays)
 stays_absent attr level [] h k x lt = absurd (omega (arith, lt))
@@ -51,9 +46,6 @@ sum_last f [] y = omega (arith, ints)
 sum_last f (x ∷ xs) y = let e = sum_last f xs y in omega (arith, ints, e)
 
 -- ---- its stay is taken no times
-
-pub one_time : (z : ℤ) → z *ℤ (pos 1 +ℤ pos 0) ≡ z
-one_time z = omega (arith, ints)
 
 times_none : (p : Problem) (at : List Mark) (attr : ℕ) (target : Fraction) (level : ℕ) (m : Multipliers) → IsWhole p → (HasStay p.stays attr → ⊥) → AreMultipliersAt (with_attr attr target p) at m → m.times level (StayOf attr) ≡ pos 0
 times_none p at attr target level m whole fresh are =

@@ -1,16 +1,15 @@
 -- What is seen of a corner when an attribute joins, and after want of memory.
-use Rattle.std.proofs.Common.{◌≡◌, ◌∙◌, ℕ, zero, suc, ◌<◌, ◌≤◌, ◌⊎◌, ◌+◌, ◌++◌, List, [], ◌∷◌, map, length, refl, sym, ap, ap₂, subst, arith, inl, inr, slice_index_or, All, Any, pos}
+use Rattle.std.proofs.Common.{◌≡◌, ◌∙◌, ℕ, zero, suc, ◌<◌, ◌≤◌, ◌⊎◌, ◌+◌, List, [], ◌∷◌, map, length, refl, sym, ap, ap₂, subst, arith, inl, inr, slice_index_or, All, pos}
 use Rattle.std.proofs.lemmas.List.{get_or_past}
 use Rattle.frac_core.specs.Fraction.{Fraction}
 use Rattle.frac_core.specs.Fraction as fractions
 use Rattle.problem_core.specs.declared.parts.Rel.TheVariants.{Eq}
-use Rattle.problem_core.specs.declared.parts.RowName.TheVariants.{Held, Stay as StayOf}
 use Rattle.row_core.specs.Rows.{Term}
 use Rattle.problem_core.specs.declared.parts.Mark.{Mark}
 use Rattle.problem_core.specs.declared.parts.Stay.{Stay}
 use Rattle.problem_core.specs.declared.parts.RowName.{RowName}
-use Rattle.problem_core.specs.Layout.{HasStay, Line, Problem, Row, line_of_row, stay_lines}
-use Rattle.problem_core.specs.Kept.{IsNumber, IsRow, IsWhole}
+use Rattle.problem_core.specs.Layout.{HasStay, Problem, Row}
+use Rattle.problem_core.specs.Kept.{IsNumber}
 use Rattle.corner_lines.specs.Joins.{with_attr}
 use Rattle.corner_table.specs.declared.table.Owner.TheVariants.{Level as LevelSlot}
 use Rattle.corner_table.specs.declared.table.Priority.{Priority}
@@ -23,11 +22,12 @@ use Rattle.corner_table.specs.Kept.{IsKept}
 use Rattle.corner_table.specs.Histories.{AreAlike, HasSameHistory, lists_before, side_by_side}
 use Rattle.corner_table.specs.Invariants.{IsConsistent, IsEarlier, name_of, names_of}
 use Rattle.corner_table.specs.Joining.{IsWithAttr, slot_of_attr, slot_of_stay}
-use Rattle.corner_packing.proofs.PastFacts.{alike_same, past_same}
+use Rattle.corner_table.proofs.Corners.HistoryFacts.{alike_same, past_same}
 use Rattle.corner.proofs.Attributes.AttrColumns.{negative_before, negative_mark}
 use Rattle.corner_joins.proofs.Attributes.AttrJoins.{count_two, joined, named_more, old_slot}
 use Rattle.corner_joins.proofs.Attributes.AttrLevels.{attr_kept, attr_marks, attr_problem, joined_is}
-use Rattle.corner_exchange.proofs.Basics.SmallFacts.{below_or}
+use Rattle.corner_exchange.proofs.Swaps.ListedSlots.{not_zero}
+use Rattle.corner_table.proofs.Basics.SmallFacts.{below_or}
 
 rows_marked : (rs : List (List Row)) (ss : List (List Stay)) (ls : List (List Slot)) (vs : List (List Standing)) (ms : List (List (List Term))) (bs ds : List (List ℕ)) (ps : List (List Priority)) → 0 < length (map scene_at (side_by_side rs ss ls vs ms bs ds ps)) → 0 < length rs
 rows_marked [] ss ls vs ms bs ds ps h = h
@@ -54,33 +54,6 @@ back_consistent t before rest alike same head all =
     }
 
 -- ---- the names of listed slots
-
-abbrev held_number : RowName → ℕ
-held_number (Held id) = id
-held_number (StayOf attr) = 0
-
-abbrev stay_number : RowName → ℕ
-stay_number (Held id) = 0
-stay_number (StayOf attr) = attr + 1
-
-stay_not_held : (attr : ℕ) → StayOf attr ≡ Held 0 → ⊥
-stay_not_held attr e = let k : attr + 1 ≡ 0 = ap stay_number e in absurd (omega (arith, k))
-
-above_zero : (id : ℕ) → 0 < id → id ≡ 0 → ⊥
-above_zero id h e = absurd (omega (arith, h, e))
-
-no_stay : (level : ℕ) (stays : List Stay) → Any (λ l. l.name ≡ Held 0) (stay_lines level stays) → ⊥
-no_stay level [] h = absurd (omega (arith, h.2))
-no_stay level (s ∷ stays) (zero, y, lt, e, h) = stay_not_held s.attr (ap (λ (l : Line). l.name) e ∙ h)
-no_stay level (s ∷ stays) (suc k, y, lt, e, h) = no_stay (level + 1) stays (k, y, omega (arith, lt), e, h)
-
-zero_row : (rows : List Row) (rest : List Line) → All IsRow rows → (Any (λ l. l.name ≡ Held 0) rest → ⊥) → Any (λ l. l.name ≡ Held 0) (map line_of_row rows ++ rest) → ⊥
-zero_row [] rest all none h = none h
-zero_row (r ∷ rows) rest all none (zero, y, lt, e, h) = above_zero r.id (all zero r (omega arith)).number.0 (ap held_number (ap (λ (l : Line). l.name) e ∙ h))
-zero_row (r ∷ rows) rest all none (suc k, y, lt, e, h) = zero_row rows rest (λ i x within. all (suc i) x (omega (arith, within))) none (k, y, omega (arith, lt), e, h)
-
-pub not_zero : (p : Problem) → IsWhole p → IsNamed p (Held 0) → ⊥
-not_zero p whole h = zero_row p.rows (stay_lines 1001 p.stays) whole.rows (λ i. no_stay 1001 p.stays i) h
 
 -- a slot whose name is a line's is one of the lists'
 listed_within : (t : Lists) (w : ℕ) → IsKept t → IsNamed (problem_of t) (name_of (slot_at t w).owner) → (w < length t.slots) ⊎ (length t.slots ≤ w) → w < length t.slots

@@ -3,6 +3,8 @@ use Rattle.std.proofs.Common.{◌≡◌, ◌∙◌, ◌-◌, ℕ, zero, suc, Lis
 use Rattle.std.specs.List.{AllByRecursion as Each}
 use Rattle.std.proofs.lemmas.List.Elements.{All-from_recursion, recursion_from_All}
 use Rattle.corner_table.specs.declared.table.Table.{Table}
+use Rattle.corner.specs.declared.known.Known.{Known}
+use Rattle.corner.specs.Known.{AreKnown}
 use Rattle.corner.specs.Views.{AreCandidates, IsNamed}
 use Rattle.corner_table.specs.Tables.{Lists, lists_of, marks_at, problem_of, scene_at}
 use Rattle.corner_table.specs.Kept.{IsKept, IsSlot}
@@ -76,3 +78,8 @@ pub forget_before : (old new : Table) → AreAlike old → lists_before new ≡ 
 forget_before old new alike e =
     let same : length (map scene_at (lists_before old)) ≡ length old.rows.before = map_length scene_at (lists_before old) ∙ sided old.rows.before old.stays.before old.slots.before old.standings.before old.matrix.before old.attr_slots.before old.row_slots.before old.priorities.before alike.stays alike.slots alike.standings alike.matrix alike.attr_slots alike.row_slots alike.priorities in
     ap (map scene_at) e ∙ (map_take scene_at (length old.rows.before - 1) (lists_before old) ∙ ap (λ (n : ℕ). take (n - 1) (map scene_at (lists_before old))) (sym same))
+
+-- ---- what is known of lists that stay
+
+pub same_known : (t u : Lists) (k : Known) → u ≡ t → AreKnown t k → AreKnown u k
+same_known t u k same known = subst (λ (x : Lists). AreKnown x k) (sym same) known

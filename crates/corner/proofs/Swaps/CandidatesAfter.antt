@@ -31,7 +31,7 @@ use Rattle.corner.specs.Views.{AreCandidates, IsNamed}
 use Rattle.corner_table.specs.Invariants.{name_of, names_of}
 use Rattle.corner_exchange.specs.Swaps.Exchanges.{AreListedAfter, IsExchangeOf, marks_after}
 use Rattle.corner_writings.specs.Rows.{row_number}
-use Rattle.corner.proofs.Swaps.ColumnReturns.{IsReturn, candidates_return}
+use Rattle.corner_exchange.proofs.Swaps.ColumnReturns.{IsReturn, candidates_return}
 use Rattle.corner_writings.proofs.LevelFacts.LevelRowFacts.{out_line}
 use Rattle.corner_table.proofs.Basics.ListFacts.{from_map, to_map}
 use Rattle.corner_exchange.proofs.Pivots.PairFacts.{leave_in, named_mark, pair_exchange, side-stands}

@@ -2,7 +2,7 @@
 use Rattle.std.proofs.Common.{◌≡◌, ◌≢◌, ◌∙◌, ◌⊎◌, ℕ, ◌<◌, ◌≤◌, List, map, length, refl, sym, ap, ap₂, subst, inl, inr, pos, All, Some}
 use Rattle.std.specs.declared.option.Option.{Option}
 use Rattle.std.proofs.lemmas.List.Elements.{All-contains}
-use Rattle.indexed_rows.proofs.Indexing.{number_at_column}
+use Rattle.version_lists.proofs.Indexing.{number_at_column}
 use Rattle.problem_core.specs.declared.parts.Mark.{Mark}
 use Rattle.problem_core.specs.declared.parts.RowName.{RowName}
 use Rattle.problem_core.specs.declared.parts.Side.{Side}
@@ -22,7 +22,7 @@ use Rattle.corner_table.specs.Histories.{AreAlike, lists_before}
 use Rattle.corner_table.specs.Invariants.{IsConsistent, IsEarlier, name_of, names_of}
 use Rattle.std.proofs.Common.{slice_index_or, Contains}
 use Rattle.problem_core.specs.Layout.{Problem}
-use Rattle.corner_exchange.specs.Swaps.Exchanges.{AreListedAfter, IsExchangeOf, IsOutsideAfter, IsOutsideSlot, IsPair, exchanged_lists, marks_after, turned_lists}
+use Rattle.corner_exchange.specs.Swaps.Exchanges.{AreListedAfter, IsExchangeOf, IsOutsideAfter, IsPair, exchanged_lists, marks_after, turned_lists}
 use Rattle.corner_joins.proofs.Attributes.AttrJoins.{nowhere}
 use Rattle.corner_writings.proofs.Readings.FreeSlots.{line_named}
 use Rattle.corner_table.proofs.Readings.SlotFacts.{named_slot}
@@ -32,7 +32,7 @@ use Rattle.corner_table.proofs.Corners.HistoryFacts.{sided}
 use Rattle.corner.proofs.Attributes.CornerAttrs.{marked_rows}
 use Rattle.corner_table.proofs.Readings.MarkFacts.{inside_stands}
 use Rattle.corner_table.proofs.Readings.ReadFacts.{is_some, mark_named}
-use Rattle.corner_table.proofs.Basics.ListFacts.{all_from, from_map, to_map}
+use Rattle.corner_table.proofs.Basics.ListFacts.{all_from, from_map}
 use Rattle.corner_table.proofs.Readings.WritingFacts.{in_mark, lines_apart}
 use Rattle.corner_table.proofs.Readings.KeptFacts.{row_kept}
 use Rattle.corner_writings.proofs.Readings.MovedFacts.{moves_entry}
@@ -41,28 +41,16 @@ use Rattle.corner.proofs.Swaps.CandidatesAfter.{exchanged_candidates, turned_can
 use Rattle.corner_exchange.proofs.Swaps.ExchangedFacts.{exchanged_over}
 use Rattle.corner_exchange.proofs.Swaps.TurnedFacts.{turn_leaves, turn_named, turned_over}
 use Rattle.frac_core.proofs.Lists.{length-mapped as map_length}
+use Rattle.corner_exchange.proofs.Swaps.ListedSlots.{CanBeListed, outside_listed, were_listed}
 use Rattle.corner_exchange.proofs.Swaps.LevelTurns.{turn_exchange}
 
 -- ---- names
-
--- the slot can be listed: it is of something that the problem has
-abbrev pub CanBeListed : Lists → ℕ → Type 0
-CanBeListed t w = IsSlot t w × IsNamed (problem_of t) (name_of (slot_at t w).owner)
 
 names_named : (t : Lists) (ws : List ℕ) → All (CanBeListed t) ws → All (IsNamed (problem_of t)) (names_of t ws)
 names_named t ws h =
     all_from (IsNamed (problem_of t)) (names_of t ws) (λ name c.
     let i = from_map (λ w. name_of (slot_at t w).owner) ws name c in
     subst (IsNamed (problem_of t)) i.is (All-contains (CanBeListed t) ws i.of h i.has).1)
-
-pub were_listed : (t : Lists) (ws : List ℕ) → All (IsSlot t) ws → All (IsNamed (problem_of t)) (names_of t ws) → (w : ℕ) → Contains ws w → CanBeListed t w
-were_listed t ws slots named w has = (
-  All-contains (IsSlot t) ws w slots has,
-  All-contains (IsNamed (problem_of t)) (names_of t ws) (name_of (slot_at t w).owner) named (to_map (λ w. name_of (slot_at t w).owner) ws w has),
-)
-
-pub outside_listed : (t : Lists) (w : ℕ) → AreSlots t → IsOutsideSlot t w → CanBeListed t w
-outside_listed t w slots out = (out.0, line_named t w out.2.0 slots out.2.1)
 
 -- lists with the same slots and the same problem
 pub record AreSeenAlike (t u : Lists) : Type 0 where

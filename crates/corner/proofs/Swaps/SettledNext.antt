@@ -19,7 +19,8 @@ use Rattle.corner_table.specs.Histories.{AreAlike, lists_before}
 use Rattle.corner_table.specs.Invariants.{IsConsistent, names_of}
 use Rattle.corner_table.specs.Views.{AreCandidates}
 use Rattle.corner_table.proofs.Basics.ListFacts.{all_from}
-use Rattle.corner.proofs.Swaps.NextConsistent.{AreSeenAlike, CanBeListed, exchanged_seen, next_consistent, turned_seen, were_listed}
+use Rattle.corner.proofs.Swaps.NextConsistent.{AreSeenAlike, exchanged_seen, next_consistent, turned_seen}
+use Rattle.corner_exchange.proofs.Swaps.ListedSlots.{CanBeListed, were_listed}
 
 no-element : (name : RowName) → Contains [] name → ⊥
 no-element name i = let within = i.1 in omega (arith, within)

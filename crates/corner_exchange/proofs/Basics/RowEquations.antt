@@ -24,7 +24,7 @@ use Rattle.corner_table.proofs.Readings.SlotFacts.{any_is}
 use Rattle.frac_core.proofs.Quotients.{size_opposite}
 use Rattle.frac_core.proofs.Numbers.{signed-not-zero as nonzero-signed, mul-neg}
 use Rattle.frac_core.proofs.Bools.{nat_eq-self as refl_eqb}
-use Rattle.corner_writings.proofs.Basics.OwnerFacts.{line-like, past-slots, line-owned}
+use Rattle.corner_table.proofs.Basics.OwnerFacts.{line-like, past-slots, line-owned}
 
 -- ---- numbers
 

@@ -15,7 +15,7 @@ use Rattle.corner_writings.specs.Rows.{row_number}
 use Rattle.corner_exchange.proofs.Pivots.LineChanges.{signed-zero}
 use Rattle.corner_exchange.proofs.Pivots.LineSlots.{below_slots}
 use Rattle.corner_exchange.proofs.Pivots.PivotFacts.{enter_within, leave_within}
-use Rattle.corner_exchange.proofs.Basics.SameEquations.{same_numbers as equal_line}
+use Rattle.corner_table.proofs.Basics.SameEquations.{same_numbers as equal_line}
 
 signed-self : (x : ℤ) → signed x x ≡ pos (unsigned_abs x)
 signed-self (pos n) = refl

@@ -25,12 +25,13 @@ use Rattle.corner_writings.specs.declared.levels.Pair.{Pair}
 use Rattle.corner_table.specs.Views.{IsNamed}
 use Rattle.corner_table.specs.Tables.{Lists, entry, line_slot, marks_at, number, problem_of, standing_at}
 use Rattle.corner_table.specs.Kept.{IsKept}
-use Rattle.corner_exchange.specs.Swaps.Exchanges.{IsEntering, IsEquationBy, IsOutsideAfter, IsOutsideSlot, IsPair, marks_after, moved, signed, solved}
+use Rattle.corner_exchange.specs.Swaps.Exchanges.{IsEntering, IsEquationBy, IsOutsideAfter, IsPair, marks_after, moved, signed, solved}
+use Rattle.corner_table.specs.Kept.{IsOutsideSlot}
 use Rattle.corner_writings.specs.Rows.{row_number}
 use Rattle.corner_table.proofs.Readings.SlotFacts.{any_impl}
 use Rattle.corner_table.proofs.Readings.WritingFacts.{lines_apart, number_is}
 use Rattle.corner_exchange.proofs.Basics.RowEquations.{AreTermsOf, reduced_terms, unfit_terms}
-use Rattle.corner_writings.proofs.Basics.OwnerFacts.{line-owned}
+use Rattle.corner_table.proofs.Basics.OwnerFacts.{line-owned}
 use Rattle.corner_exchange.proofs.Pivots.PairFacts.{IsWay, eqb-same, leave_equation, leave_in, line-here, named_mark, pair_exchange, pair_rays, pivot_row, times-sign, turned-turned, way_of}
 use Rattle.std.proofs.lemmas.Bool.{cases_eq}
 use Rattle.std.specs.Int.{◌∣◌}

@@ -9,7 +9,7 @@ use Rattle.row_core.proofs.Lowest.{reduced_same, unfit_same}
 use Rattle.std.proofs.lemmas.Option.{unwrap_or-slice_get}
 use Rattle.std.specs.Prelude.{slice_get, slice_index_or}
 use Rattle.std.specs.Option.{unwrap_or}
-use Rattle.indexed_rows.specs.Matrices.{IsBelow}
+use Rattle.version_lists.specs.Matrices.{IsBelow}
 use Rattle.problem_core.specs.declared.parts.Mark.{Mark}
 use Rattle.problem_core.specs.declared.parts.RowName.{RowName}
 use Rattle.problem_core.specs.declared.parts.RowName.TheVariants.{Stay as StayOf}
@@ -32,15 +32,16 @@ use Rattle.corner_table.specs.Tables.{Lists, attr_slot, entry, line_slot, marks_
 use Rattle.corner_table.specs.Kept.{IsEquationAt, IsKept, IsLineRow, IsOwned, IsSlot, IsStayOwner}
 use Rattle.corner_table.specs.Views.{IsNamed}
 use Rattle.corner_writings.proofs.Readings.FreeSlots.{not_free}
-use Rattle.corner_exchange.specs.Swaps.Exchanges.{AreOutsideAfter, IsChangeOf, IsEntering, IsEquationBy, IsOutsideAfter, IsOutsideSlot, IsOwnerRow, IsPair, IsWhatOf, IsWhatAt, marks_after, moved, moved_by, IsPivotAt, IsValueAfter, signed}
+use Rattle.corner_exchange.specs.Swaps.Exchanges.{AreOutsideAfter, IsChangeOf, IsEntering, IsEquationBy, IsOutsideAfter, IsOwnerRow, IsPair, IsWhatOf, IsWhatAt, marks_after, moved, moved_by, IsPivotAt, IsValueAfter, signed}
+use Rattle.corner_table.specs.Kept.{IsOutsideSlot}
 use Rattle.corner_writings.specs.Rows.{row_number}
 use Rattle.corner_table.proofs.Readings.SlotFacts.{any_is, named_slot}
 use Rattle.corner_table.proofs.Readings.MarkFacts.{same_mark, stands_inside}
 use Rattle.corner_table.proofs.Readings.ReadFacts.{attr_equation, inside_equation}
-use Rattle.corner_writings.proofs.Basics.OwnerFacts.{line-owned}
+use Rattle.corner_table.proofs.Basics.OwnerFacts.{line-owned}
 use Rattle.corner_exchange.proofs.Pivots.PairFacts.{named_mark, pair_exchange, pair_rays, side-stands}
 use Rattle.corner_exchange.proofs.Pivots.PivotFacts.{enter_owner, leave_within}
-use Rattle.corner_writings.proofs.Basics.OwnerFacts.{stay_owner}
+use Rattle.corner_table.proofs.Basics.OwnerFacts.{stay_owner}
 use Rattle.corner_exchange.proofs.Basics.SumTurns.{turn, turn-lowest}
 use Rattle.std.proofs.lemmas.Bool.{cases_eq}
 use Rattle.frac_core.proofs.Integers.{zero_from_mul}

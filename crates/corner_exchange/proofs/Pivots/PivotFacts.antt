@@ -27,7 +27,7 @@ use Rattle.corner_exchange.proofs.Basics.SumTurns.{turn, turn-lowest}
 use Rattle.corner_table.proofs.Corners.NewTables.{zero_is as is-zero}
 use Rattle.corner_table.proofs.Readings.WritingFacts.{line_owner}
 use Rattle.problem_core.proofs.Marks.{entered-in as enter_in}
-use Rattle.corner_writings.proofs.Basics.OwnerFacts.{stay_owner}
+use Rattle.corner_table.proofs.Basics.OwnerFacts.{stay_owner}
 
 pub size_above : (x r : ℤ) → x ≢ pos 0 → r ≡ pos (unsigned_abs x) → pos 0 <ℤ r
 size_above (pos zero) r some e = absurd (some refl)

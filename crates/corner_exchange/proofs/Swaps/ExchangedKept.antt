@@ -4,7 +4,7 @@ use Rattle.std.specs.List.{AllByRecursion as Each}
 use Rattle.std.proofs.lemmas.List.Elements.{All-set, recursion_from_All}
 use Rattle.frac_core.specs.Fraction as fractions
 use Rattle.row_core.specs.Rows.{IsKeptRow, Term}
-use Rattle.indexed_rows.proofs.Indexing.{none_kept}
+use Rattle.version_lists.proofs.Indexing.{none_kept}
 use Rattle.problem_core.specs.Window.{zero_fraction}
 use Rattle.problem_core.specs.Layout.{lines}
 use Rattle.problem_core.specs.Corners.{SameMarks, Swap}
@@ -16,7 +16,7 @@ use Rattle.corner_table.specs.Tables.{Lists, marks_at, problem_of, standing_at}
 use Rattle.corner_table.specs.Kept.{AreSlots, IsKept}
 use Rattle.corner_exchange.specs.Swaps.Exchanges.{IsExchangeOf, cleared, exchanged_lists, marks_after, with_changes}
 use Rattle.corner_exchange.specs.Swaps.NextLists.{AreKeptChanges, IsKeptBy, IsKeptChange, over}
-use Rattle.corner_exchange.proofs.Basics.SmallFacts.{own_name, own_stay}
+use Rattle.corner_table.proofs.Basics.SmallFacts.{own_name, own_stay}
 use Rattle.corner_table.proofs.Readings.KeptFacts.{zero_kept}
 use Rattle.corner_exchange.proofs.Swaps.NextFacts.{kept_by, over_slots}
 use Rattle.corner_exchange.proofs.Pivots.PairFacts.{pair_exchange, pair_rays}

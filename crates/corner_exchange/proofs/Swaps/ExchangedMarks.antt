@@ -23,7 +23,8 @@ use Rattle.corner_table.specs.declared.table.TheConstants.{LEVELS}
 use Rattle.corner_table.specs.Views.{IsMarkOf, IsNamed}
 use Rattle.corner_table.specs.Tables.{Lists, entry, line_slot, marks_at, problem_of, row_at, slot_at, standing_at, stands_in}
 use Rattle.corner_table.specs.Kept.{AreOutside, HasStayRoom, IsKept, IsSlot, IsStayOwner}
-use Rattle.corner_exchange.specs.Swaps.Exchanges.{IsOutsideAfter, IsOutsideSlot, marks_after}
+use Rattle.corner_exchange.specs.Swaps.Exchanges.{IsOutsideAfter, marks_after}
+use Rattle.corner_table.specs.Kept.{IsOutsideSlot}
 use Rattle.corner_exchange.specs.Swaps.NextLists.{over}
 use Rattle.corner_table.proofs.Readings.SlotFacts.{named_slot}
 use Rattle.corner_table.proofs.Readings.MarkFacts.{inside_stands, same_mark, stands_inside}
@@ -31,9 +32,9 @@ use Rattle.corner_table.proofs.Readings.ReadFacts.{is_some, mark_named}
 use Rattle.corner_table.proofs.Basics.ListFacts.{all_from, to_map}
 use Rattle.corner_table.proofs.Readings.WritingFacts.{line_owner, lines_apart}
 use Rattle.corner_exchange.proofs.Pivots.PairFacts.{leave_in, pair_exchange, side-stands}
-use Rattle.corner_exchange.proofs.Basics.SmallFacts.{own_stay}
-use Rattle.corner_writings.proofs.Basics.OwnerFacts.{stay_named}
-use Rattle.corner_exchange.proofs.Basics.SmallFacts.{below_or}
+use Rattle.corner_table.proofs.Basics.SmallFacts.{own_stay}
+use Rattle.corner_table.proofs.Basics.OwnerFacts.{stay_named}
+use Rattle.corner_table.proofs.Basics.SmallFacts.{below_or}
 use Rattle.corner_exchange.proofs.Swaps.ExchangedFacts.{IsNext, same-side}
 use Rattle.problem_core.proofs.Marks.{entered-in as enter_in, kept-in as kept_in}
 use Rattle.problem_core.proofs.Sides.{none-not-some as not-some}

@@ -31,7 +31,8 @@ use Rattle.corner_table.specs.declared.table.TheConstants.{LEVELS}
 use Rattle.corner_table.specs.Tables.{Lists, entry, line_slot, marks_at, number, priority_at, problem_of, row_at, slot_at, standing_at}
 use Rattle.corner_table.specs.Kept.{IsEquationAt, IsKept, level_own}
 use Rattle.corner_table.specs.Reads.LevelNumbers.{count_of}
-use Rattle.corner_exchange.specs.Swaps.Exchanges.{IsOutsideSlot, marks_after}
+use Rattle.corner_table.specs.Kept.{IsOutsideSlot}
+use Rattle.corner_exchange.specs.Swaps.Exchanges.{marks_after}
 use Rattle.corner_writings.specs.Rows.{row_number}
 use Rattle.corner_writings.specs.Fitting.{side_after}
 use Rattle.corner_exchange.specs.Swaps.LevelChanges.{count_by}
@@ -40,7 +41,7 @@ use Rattle.corner_table.proofs.Readings.SlotFacts.{any_impl, named_slot}
 use Rattle.corner_table.proofs.Readings.WritingFacts.{number_is}
 use Rattle.corner_table.proofs.Readings.ReadFacts.{inside_equation}
 use Rattle.corner_exchange.proofs.Basics.RowEquations.{AreTermsOf, reduced_terms}
-use Rattle.corner_writings.proofs.Basics.OwnerFacts.{line-owned}
+use Rattle.corner_table.proofs.Basics.OwnerFacts.{line-owned}
 use Rattle.corner_exchange.proofs.Pivots.PairFacts.{named_mark, side-stands, times-sign, turned-right}
 use Rattle.corner_lines.specs.Levels.StayLevels.{turned}
 use Rattle.corner_exchange.proofs.Pivots.LevelSwaps.{above_level, all_lines, level_absent, other_numbers}

@@ -1,7 +1,7 @@
 -- The lines that are listed once an exchange was put.
 use Rattle.std.proofs.Common.{◌≡◌, ℕ, List, sym, subst, inl, inr}
 use Rattle.row_core.specs.Rows.{Term}
-use Rattle.indexed_rows.proofs.Indexing.{number_at_column}
+use Rattle.version_lists.proofs.Indexing.{number_at_column}
 use Rattle.problem_core.specs.Corners.{Swap}
 use Rattle.corner_exchange.specs.declared.exchange.Exchange.{Exchange}
 use Rattle.corner_table.specs.Reads.Listing.{IsListed}

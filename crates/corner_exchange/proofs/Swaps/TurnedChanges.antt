@@ -11,7 +11,7 @@ use Rattle.row_core.specs.declared.entry.Factors.{Factors}
 use Rattle.row_core.specs.declared.entry.Patch.{Patch}
 use Rattle.row_core.proofs.Lowest.{reduced_same, unfit_same}
 use Rattle.row_core.proofs.Places.{coefficient_at}
-use Rattle.indexed_rows.specs.Matrices.{IsBelow}
+use Rattle.version_lists.specs.Matrices.{IsBelow}
 use Rattle.problem_core.specs.declared.parts.Side.{Side}
 use Rattle.problem_core.specs.Changes.Stops.{TableStop}
 use Rattle.problem_core.specs.Corners.{Swap}
@@ -26,7 +26,8 @@ use Rattle.corner_table.specs.Tables.{Lists, entry, priority_at, problem_of, row
 use Rattle.corner_table.specs.Kept.{IsKept, level_own}
 use Rattle.corner_table.specs.Reads.LevelNumbers.{IsSlotOfLine}
 use Rattle.corner_exchange.specs.Stops.{IsUnfitStop}
-use Rattle.corner_exchange.specs.Swaps.Exchanges.{IsLevelBy, IsOutsideSlot, marks_after}
+use Rattle.corner_exchange.specs.Swaps.Exchanges.{IsLevelBy, marks_after}
+use Rattle.corner_table.specs.Kept.{IsOutsideSlot}
 use Rattle.corner_writings.specs.Rows.{row_number}
 use Rattle.corner_writings.specs.Fitting.{AreSidesAfter, HasFittingRow, HasNoFittingRow}
 use Rattle.corner_exchange.specs.Swaps.TurnedLevels.{IsHomeStop, IsTurn, IsTurnedLevel, IsTurnedValue, counts_at, turned_sum, turning_at}

@@ -36,14 +36,15 @@ use Rattle.corner_table.specs.declared.table.TheConstants.{LEVELS}
 use Rattle.corner_table.specs.Views.{IsMarkOf, IsNamed}
 use Rattle.corner_table.specs.Tables.{Lists, attr_slot, entry, line_slot, marks_at, number, priority_at, problem_of, row_at, slot_at, standing_at, stands_in}
 use Rattle.corner_table.specs.Kept.{AreOutside, AreSlots, HasStayRoom, IsAttrSlot, IsEquationAt, IsKept, IsLineRow, IsSlot, home_of, row_count}
-use Rattle.corner_exchange.specs.Swaps.Exchanges.{AreChangesIn, IsEquationBy, IsLevelBy, IsOutsideSlot, marks_after, opposite, turned_line, turned_lists, with_changes}
+use Rattle.corner_exchange.specs.Swaps.Exchanges.{AreChangesIn, IsEquationBy, IsLevelBy, marks_after, opposite, turned_line, turned_lists, with_changes}
+use Rattle.corner_table.specs.Kept.{IsOutsideSlot}
 use Rattle.corner_writings.specs.Rows.{row_number}
 use Rattle.corner_exchange.specs.Swaps.TurnedLevels.{IsTurn, IsTurnBy, IsTurnedLevel}
 use Rattle.corner_exchange.specs.Swaps.NextLists.{IsKeptBy, IsLevelNext, IsLineBy, over}
 use Rattle.corner_table.proofs.Readings.SlotFacts.{any_is, named_slot}
-use Rattle.corner_exchange.proofs.Basics.SmallFacts.{own_name, own_stay}
-use Rattle.corner_writings.proofs.Basics.OwnerFacts.{stay_named}
-use Rattle.corner_exchange.proofs.Basics.SmallFacts.{below_or}
+use Rattle.corner_table.proofs.Basics.SmallFacts.{own_name, own_stay}
+use Rattle.corner_table.proofs.Basics.OwnerFacts.{stay_named}
+use Rattle.corner_table.proofs.Basics.SmallFacts.{below_or}
 use Rattle.corner_table.proofs.Readings.KeptFacts.{value_kept}
 use Rattle.corner_exchange.proofs.Basics.Opposites.{opposite_fits, opposite_lowest}
 use Rattle.corner_writings.proofs.LevelFacts.LevelNumberFacts.{AreLevelsOf, IsKnown, all-known, named_line}

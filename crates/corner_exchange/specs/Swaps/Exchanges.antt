@@ -7,7 +7,7 @@ use Rattle.row_core.specs.Rows.{Term, coefficient, combination}
 use Rattle.problem_core.specs.declared.stops.What.{What}
 use Rattle.problem_core.specs.declared.stops.What.TheVariants.{Attr as AttrOf, Mark as MarkOf}
 use Rattle.problem_core.specs.declared.stops.What.TheVariants.{Level as LevelOf}
-use Rattle.indexed_rows.specs.Matrices.{IsBelow}
+use Rattle.version_lists.specs.Matrices.{IsBelow}
 use Rattle.problem_core.specs.declared.parts.RowName.{RowName}
 use Rattle.problem_core.specs.declared.parts.RowName.TheVariants.{Stay as StayOf}
 use Rattle.problem_core.specs.declared.parts.Level.TheVariants.{Stay as StayLevel}
@@ -35,7 +35,7 @@ use Rattle.corner_table.specs.declared.table.Standing.{Standing}
 use Rattle.corner_table.specs.declared.table.TheConstants.{LEVELS}
 use Rattle.corner_table.specs.Tables.{Lists, entry, line_slot, marks_at, priority_at, problem_of, row_at}
 use Rattle.corner_table.specs.Tables.{sign_of_what, slot_at, standing_at}
-use Rattle.corner_table.specs.Kept.{IsKept, IsSlot, IsStayOwner}
+use Rattle.corner_table.specs.Kept.{IsKept, IsSlot, IsStayOwner, IsOutsideSlot}
 use Rattle.corner_table.specs.Views.{IsNamed}
 use Rattle.corner_writings.specs.Rows.{row_number}
 
@@ -77,11 +77,6 @@ IsOwnerRow t at w (AttrSlot attr) side row value =
 IsOwnerRow t at w (LineSlot name) None row value = ⊥
 IsOwnerRow t at w (LineSlot name) (Some side) row value =
     IsEquationBy t at (deviation name) w row (sign_of side *ℤ value.num) value.den
-
--- an outside line's slot
-abbrev pub IsOutsideSlot : Lists → ℕ → Type 0
-IsOutsideSlot t c = IsSlot t c × ((standing_at t c).side ≡ None)
-    × ((name : RowName) × ((slot_at t c).owner ≡ LineSlot name))
 
 -- the slot of a line that is outside after the exchange: the leaving one, or one that was and doesn't enter
 abbrev pub IsOutsideAfter : Lists → Pair → ℕ → Type 0

@@ -5,7 +5,7 @@ use Rattle.std.specs.declared.option.Option.{Option}
 use Rattle.frac_core.specs.Fraction as fractions
 use Rattle.frac_core.specs.Fraction.{Fraction, IsFitting, IsRatio, sum_den, sum_num}
 use Rattle.row_core.specs.Rows.{IsKeptRow, coefficient, combination}
-use Rattle.indexed_rows.specs.Matrices.{IsBelow}
+use Rattle.version_lists.specs.Matrices.{IsBelow}
 use Rattle.problem_core.specs.declared.parts.Side.{Side}
 use Rattle.problem_core.specs.declared.parts.Side.TheVariants.{Under, Over}
 use Rattle.problem_core.specs.Changes.Stops.{TableStop}
@@ -15,7 +15,8 @@ use Rattle.corner_lines.specs.LineEquations.{sign_of}
 use Rattle.corner_exchange.specs.declared.exchange.Change.{Change}
 use Rattle.corner_table.specs.declared.table.TheConstants.{LEVELS}
 use Rattle.corner_exchange.specs.Stops.{IsUnfitStop}
-use Rattle.corner_exchange.specs.Swaps.Exchanges.{IsLevelBy, IsOutsideSlot, marks_after}
+use Rattle.corner_exchange.specs.Swaps.Exchanges.{IsLevelBy, marks_after}
+use Rattle.corner_table.specs.Kept.{IsOutsideSlot}
 use Rattle.corner_table.specs.Kept.{IsKept, level_own}
 use Rattle.corner_exchange.specs.Swaps.LevelChanges.{IsStopOf}
 use Rattle.corner_table.specs.Reads.LevelNumbers.{count_of}

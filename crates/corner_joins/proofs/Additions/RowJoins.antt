@@ -37,10 +37,10 @@ use Rattle.corner_joins.specs.Additions.RowSums.{IsSumRow, with_pushed}
 use Rattle.std.specs.declared.option.Option.{Option}
 use Rattle.std.proofs.lemmas.List.{length_push}
 use Rattle.std.proofs.Math.ListN.{get_or-append}
-use Rattle.corner_exchange.proofs.Basics.SmallFacts.{own_name, own_stay}
+use Rattle.corner_table.proofs.Basics.SmallFacts.{own_name, own_stay}
 use Rattle.corner_exchange.proofs.Basics.Opposites.{opposite_fits, opposite_lowest}
 use Rattle.corner_joins.proofs.Attributes.AttrLevels.{made}
-use Rattle.corner_writings.proofs.Basics.OwnerFacts.{stay_named}
+use Rattle.corner_table.proofs.Basics.OwnerFacts.{stay_named}
 use Rattle.corner_table.proofs.Readings.SlotFacts.{named_slot}
 use Rattle.corner_joins.proofs.Additions.RowPlaces.{IsPush, last_of, marks_pushed, old_row, old_slot, put_line, row_place, slots_pushed, next}
 use Rattle.corner_joins.proofs.Additions.RowKept.{IsSideOf, corner_pushed, new_kept_line, old_attr_row, old_kept_line, outside_pushed, rays_pushed, row_equation, side_of}

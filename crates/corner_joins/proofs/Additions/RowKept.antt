@@ -27,12 +27,12 @@ use Rattle.corner_table.specs.Views.{IsNamed}
 use Rattle.corner_table.specs.Tables.{Lists, attr_slot, entry, line_slot, marks_at, number, problem_of, row_at, standing_at}
 use Rattle.corner_table.specs.Kept.{AreOutside, IsAttrRow, IsAttrSlot, IsEquationAt, IsLineRow}
 use Rattle.corner_table.specs.Joining.{at_zero, slot_of_row}
-use Rattle.corner_exchange.specs.Swaps.Exchanges.{IsOutsideSlot}
+use Rattle.corner_table.specs.Kept.{IsOutsideSlot}
 use Rattle.corner_writings.specs.Rows.{row_number}
 use Rattle.corner_joins.specs.Additions.RowJoins.{IsStandingOf}
 use Rattle.corner_joins.specs.Additions.RowSums.{IsSumRow, with_pushed}
-use Rattle.corner_exchange.proofs.Basics.SameEquations.{same_numbers}
-use Rattle.corner_exchange.proofs.Basics.SmallFacts.{below_or}
+use Rattle.corner_table.proofs.Basics.SameEquations.{same_numbers}
+use Rattle.corner_table.proofs.Basics.SmallFacts.{below_or}
 use Rattle.corner_table.proofs.Readings.SlotFacts.{named_slot}
 use Rattle.corner_joins.proofs.Additions.RowPlaces.{IsPush, marks_pushed, named_by, old_row, old_slot, old_standing, row_here, row_own, row_standing, next}
 use Rattle.corner_joins.proofs.Additions.RowTerms.{old_equation}

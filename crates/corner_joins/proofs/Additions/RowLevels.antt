@@ -48,7 +48,7 @@ use Rattle.corner_table.specs.Tables.{Lists, marks_at, number, priority_at, prob
 use Rattle.corner_table.specs.Kept.{row_count}
 use Rattle.corner_joins.specs.Additions.Parts.{HasPartNumbers, IsLevelPart, joined_at}
 use Rattle.corner_joins.specs.Additions.RowSums.{with_pushed}
-use Rattle.corner_exchange.proofs.Basics.SmallFacts.{own_name}
+use Rattle.corner_table.proofs.Basics.SmallFacts.{own_name}
 use Rattle.corner_joins.proofs.Additions.RowPlaces.{IsPush, each_new, each_old, last_of, marks_pushed, old_row, old_standing, put_line, next}
 use Rattle.corner_joins.proofs.Additions.RowKept.{corner_pushed, rays_pushed}
 use Rattle.corner_joins.proofs.Additions.RowTerms.{old_number}

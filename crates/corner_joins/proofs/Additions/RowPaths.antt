@@ -1,8 +1,6 @@
 -- Rows that are pushed one by one.
-use Rattle.std.proofs.Common.{◌≡◌, ◌∙◌, ℕ, zero, suc, ◌+◌, ◌<◌, ◌++◌, List, [], ◌∷◌, length, map, take, drop, refl, sym, ap, ap₂, subst, arith, inl, inr, ℤ, pos, negsuc, ◌*ℤ◌, ◌<ℤ◌, unsigned_abs, slice_index_or, All, Any}
+use Rattle.std.proofs.Common.{◌≡◌, ◌∙◌, ℕ, zero, suc, ◌+◌, ◌<◌, ◌++◌, List, [], ◌∷◌, length, map, take, drop, refl, sym, ap, ap₂, subst, arith, inl, inr, ℤ, ◌*ℤ◌, unsigned_abs, slice_index_or, All, Any}
 use Rattle.std.proofs.Common.{length-append}
-use Rattle.std.proofs.lemmas.List.Elements.{recursion_from_All}
-use borrow.Author.Differences.{ints}
 use Rattle.problem_core.specs.declared.parts.Mark.{Mark}
 use Rattle.problem_core.specs.declared.parts.Stay.{Stay}
 use Rattle.problem_core.specs.declared.parts.RowName.{RowName}
@@ -10,7 +8,6 @@ use Rattle.problem_core.specs.Layout.{Line, Problem, Row, line_of_row, lines, st
 use Rattle.problem_core.specs.Kept.{IsWhole}
 use Rattle.problem_core.specs.Changes.Begins.{BeginsWith, IsJoined}
 use Rattle.problem_core.specs.Corners.{IsCorner, IsIn, Point, SameMarks, StandsAt, one_column, place}
-use Rattle.corner_laws.proofs.WrittenValues.{contains_each}
 use Rattle.corner_lines.specs.Joins.{IsJoinedBy, with_row}
 use Rattle.corner_lines.proofs.ProblemChanges.JoinedBegins.{begins_more}
 use Rattle.corner_lines.proofs.ProblemChanges.JoinedRows.{in-parts, new-in, old-in}
@@ -18,6 +15,8 @@ use Rattle.corner_table.specs.declared.table.Slot.{Slot}
 use Rattle.corner_table.specs.Views.{IsNamed}
 use Rattle.corner_laws.specs.Lifts.{with_rows}
 use Rattle.corner_table.specs.Tables.{Lists, line_slot, marks_at, problem_of, row_at, standing_at}
+use Rattle.corner_table.proofs.Basics.MarkLists.{same_trans}
+use Rattle.corner_writings.proofs.Basics.SmallFacts.{positive_is}
 use Rattle.corner_joins.specs.Additions.Parts.{IsPartlyKept, IsWithRow}
 use Rattle.corner_table.specs.Joining.{slot_of_row}
 use Rattle.corner_joins.specs.Additions.RowJoins.{ArePushed, IsPushed}
@@ -100,12 +99,6 @@ one_pushed more t u w r h p kept whole =
 
 -- ---- where a path begins
 
-pub same_trans : (a b c : List Mark) → SameMarks a b → SameMarks b c → SameMarks a c
-same_trans a b c f g = (
-  λ k x lt. contains_each (λ d. IsIn d c) b (place (slice_index_or a k x)) (recursion_from_All (λ m. IsIn (place m) c) b g.0) (f.0 k x lt),
-  λ k x lt. contains_each (λ d. IsIn d a) b (place (slice_index_or c k x)) (recursion_from_All (λ m. IsIn (place m) a) b f.1) (g.1 k x lt),
-)
-
 -- each mark is inside
 pub self_in : (ms : List Mark) (k : ℕ) (x : Mark) → k < length ms → IsIn (place (slice_index_or ms k x)) ms
 self_in [] k x lt = absurd (omega (arith, lt))
@@ -125,10 +118,6 @@ moved_last at m = (first, λ k x lt. back (place (slice_index_or (at ++ (m ∷ [
       | inl (k, within, is) ↦ (suc k, omega (arith, within), is)
       | inr e ↦ (0, omega arith, sym e)
     ]
-
-pub positive_is : (z : ℤ) → pos 0 <ℤ z → (0 < unsigned_abs z) × (pos (unsigned_abs z) ≡ z)
-positive_is (pos n) h = (omega (arith, ints, h), refl)
-positive_is (negsuc n) h = absurd h.lt
 
 joined_by : (x : Point) (r : Row) (m : Mark) → IsJoined x r m → IsJoinedBy r m (x.num (place m))
 joined_by x r m (inl h) = inl h

@@ -12,7 +12,7 @@ use Rattle.corner_table.specs.declared.table.Slot.{Slot}
 use Rattle.corner_table.specs.declared.table.Standing.{Standing}
 use Rattle.corner_table.specs.declared.table.TheConstants.{MOST_SLOTS}
 use Rattle.corner_table.specs.Tables.{Lists}
-use Rattle.number_slots.specs.Numbers.{IsNumbered}
+use Rattle.version_lists.specs.Numbers.{IsNumbered}
 use Rattle.corner_table.specs.Joining.{slot_of_row, with_slot}
 use Rattle.corner_joins.specs.Additions.RowJoins.{IsPlaced, IsStandingOf}
 

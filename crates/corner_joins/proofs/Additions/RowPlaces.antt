@@ -27,16 +27,16 @@ use Rattle.corner_table.specs.Views.{IsNamed}
 use Rattle.corner_table.specs.Tables.{Lists, attr_slot, is_side, line_slot, marks_at, problem_of, row_at, slot_at, standing_at, stands_in, stay_rank}
 use Rattle.corner_table.specs.Kept.{AreSlots, IsAttrSlot, IsLineSlot, IsOwned}
 use Rattle.corner_joins.specs.Additions.Parts.{IsPartlyKept}
-use Rattle.number_slots.specs.Numbers.{IsNumbered}
+use Rattle.version_lists.specs.Numbers.{IsNumbered}
 use Rattle.corner_table.specs.Joining.{slot_of_row}
 use Rattle.corner_joins.specs.Additions.RowSums.{with_pushed}
 use Rattle.corner_joins.proofs.Attributes.AttrJoins.{home_same}
-use Rattle.corner_exchange.proofs.Basics.SmallFacts.{own_name, own_stay}
+use Rattle.corner_table.proofs.Basics.SmallFacts.{own_name, own_stay}
 use Rattle.corner_table.proofs.Readings.MarkFacts.{stands_inside}
 use Rattle.corner_table.proofs.Corners.NewTables.{less_or}
 use Rattle.corner_table.proofs.Corners.SlotRanks.{last_pushed, ranks_pushed}
 use Rattle.corner_table.proofs.Readings.SlotFacts.{any_is, named_slot}
-use Rattle.corner_writings.proofs.Basics.OwnerFacts.{stay_named}
+use Rattle.corner_table.proofs.Basics.OwnerFacts.{stay_named}
 use Rattle.corner_table.proofs.Readings.ReadFacts.{named_in as mark_of_line, same_is as one_side}
 use Rattle.corner_writings.proofs.Basics.SmallFacts.{self_side}
 

@@ -45,7 +45,9 @@ use Rattle.corner_table.proofs.Readings.MarkFacts.{same_mark}
 use Rattle.corner_table.proofs.Readings.MarkingFacts.{inside_more, marks_inside, row_named, stay_named, append_more}
 use Rattle.corner_joins.proofs.Additions.RowJoins.{not_below, not_less}
 use Rattle.corner_joins.proofs.Additions.RowLevels.{stands_before}
-use Rattle.corner_joins.proofs.Additions.RowPaths.{self_in, map_append, moved_last, named_so_far, positive_is, problem_so_far, drop_next, take_all, take_next, same_trans}
+use Rattle.corner_joins.proofs.Additions.RowPaths.{self_in, map_append, moved_last, named_so_far, problem_so_far, drop_next, take_all, take_next}
+use Rattle.corner_writings.proofs.Basics.SmallFacts.{positive_is}
+use Rattle.corner_table.proofs.Basics.MarkLists.{same_trans}
 use Rattle.corner_joins.proofs.Additions.RowPlaces.{IsNext, other_name, row_stands, slots_pushed, stand_same}
 use Rattle.corner_joins.proofs.Additions.RowTerms.{numbered, with_number}
 use Rattle.corner_lines.proofs.ProblemChanges.JoinedBegins.{in-left, in-right, in-either, each-of-all}

@@ -12,7 +12,7 @@ use Rattle.row_core.specs.Combinations.{combination_but}
 use Rattle.row_core.specs.declared.entry.Factors.{Factors}
 use Rattle.row_core.specs.declared.entry.Patch.{Patch}
 use Rattle.row_core.proofs.Places.{coefficient_at}
-use Rattle.indexed_rows.specs.Matrices.{IsBelow}
+use Rattle.version_lists.specs.Matrices.{IsBelow}
 use Rattle.problem_core.specs.declared.parts.Mark.{Mark}
 use Rattle.problem_core.specs.declared.stops.Quantity.TheVariants.{Terms}
 use Rattle.problem_core.specs.Changes.Stops.{TableStop}
@@ -41,16 +41,16 @@ use Rattle.corner_table.specs.Views.{IsNamed}
 use Rattle.corner_table.specs.Tables.{Lists, attr_slot, entry, line_slot, marks_at, number, problem_of, row_at, standing_at}
 use Rattle.corner_table.specs.Kept.{AreSlots, IsAttrRow, IsAttrSlot}
 use Rattle.corner_joins.specs.Additions.Parts.{IsPartlyKept, IsTermsStop}
-use Rattle.number_slots.specs.Numbers.{IsNumbered}
+use Rattle.version_lists.specs.Numbers.{IsNumbered}
 use Rattle.corner_table.specs.Joining.{at_zero}
-use Rattle.corner_exchange.specs.Swaps.Exchanges.{IsOutsideSlot}
+use Rattle.corner_table.specs.Kept.{IsOutsideSlot}
 use Rattle.corner_writings.specs.Rows.{row_number}
 use Rattle.corner_joins.specs.Additions.RowSums.{AreTermFactors, HasTermFactors, IsSumRow, IsTermRow, IsTermValue, IsUnfitTerm, term_number, term_of, with_pushed}
-use Rattle.corner_exchange.proofs.Basics.SmallFacts.{own_name}
-use Rattle.corner_exchange.proofs.Basics.SameEquations.{same_numbers}
+use Rattle.corner_table.proofs.Basics.SmallFacts.{own_name}
+use Rattle.corner_table.proofs.Basics.SameEquations.{same_numbers}
 use Rattle.corner_writings.proofs.Basics.SmallFacts.{zero_unless}
 use Rattle.corner_exchange.proofs.Basics.RowEquations.{AreTermsOf, positive_part, reduced_terms, unfit_terms, other-slot as cond-other}
-use Rattle.corner_writings.proofs.Basics.OwnerFacts.{line-owned}
+use Rattle.corner_table.proofs.Basics.OwnerFacts.{line-owned}
 use Rattle.corner_joins.proofs.Additions.RowPlaces.{IsPush, last_of, row_is, named_by, named_more, old_row, put_line, row_here, slots_pushed, next}
 use Rattle.corner_table.proofs.Readings.SlotFacts.{any_impl, any_is, named_slot}
 use Rattle.corner_lines.proofs.LevelRows.Units.{positive_is}

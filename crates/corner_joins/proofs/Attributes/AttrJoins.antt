@@ -30,16 +30,16 @@ use Rattle.corner_table.specs.declared.table.TheConstants.{LEVELS, MOST_SLOTS, O
 use Rattle.corner_table.specs.Views.{IsNamed}
 use Rattle.corner_table.specs.Tables.{Lists, attr_slot, entry, is_side, line_slot, marks_at, number, problem_of, row_at, slot_at, standing_at, stands_in, stay_rank}
 use Rattle.corner_table.specs.Kept.{AreOutside, AreSlots, IsAttrRow, IsAttrSlot, IsEquationAt, IsKept, IsLineRow, IsLineSlot, IsOwned, IsSlot, home_of}
-use Rattle.number_slots.specs.Numbers.{IsNumbered}
+use Rattle.version_lists.specs.Numbers.{IsNumbered}
 use Rattle.corner_table.specs.Joining.{IsStayForm, at_value, at_zero, slot_of_attr, slot_of_stay}
 use Rattle.corner_table.proofs.Readings.SlotFacts.{named_slot, named_stay}
 use Rattle.corner_table.proofs.Corners.NewTables.{less_or}
 use Rattle.corner_table.proofs.Corners.SlotRanks.{last_pushed, ranks_pushed}
 use Rattle.corner_lines.proofs.FrontsStay.{stays-more, regrouped}
 use Rattle.corner_writings.proofs.Basics.SmallFacts.{zero_unless}
-use Rattle.corner_exchange.proofs.Basics.SmallFacts.{own_name, own_stay}
-use Rattle.corner_writings.proofs.Basics.OwnerFacts.{stay_named}
-use Rattle.corner_exchange.proofs.Basics.SameEquations.{same_numbers}
+use Rattle.corner_table.proofs.Basics.SmallFacts.{own_name, own_stay}
+use Rattle.corner_table.proofs.Basics.OwnerFacts.{stay_named}
+use Rattle.corner_table.proofs.Basics.SameEquations.{same_numbers}
 
 -- ---- two more in a list
 

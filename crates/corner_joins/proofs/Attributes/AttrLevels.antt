@@ -1,5 +1,5 @@
 -- What the levels keep when an attribute joins, and all of it.
-use Rattle.std.proofs.Common.{◌≡◌, ◌≢◌, ◌∙◌, ℕ, ◌+◌, ◌*◌, ◌/◌, ◌<◌, ◌++◌, Bool, cond, nat_eq, List, [], ◌∷◌, length, refl, sym, ap, ap₂, subst, arith, inl, inr, ℤ, pos, neg_ℤ, ◌+ℤ◌, ◌*ℤ◌, ◌-ℤ◌, ne_eqb, slice_index_or, All}
+use Rattle.std.proofs.Common.{◌≡◌, ◌∙◌, ℕ, ◌+◌, ◌*◌, ◌/◌, ◌<◌, ◌++◌, cond, nat_eq, List, [], ◌∷◌, length, refl, sym, ap, subst, arith, inl, inr, ℤ, pos, neg_ℤ, ◌+ℤ◌, ◌*ℤ◌, ◌-ℤ◌, slice_index_or, All}
 use Rattle.std.proofs.lemmas.List.{get_or_default, get_or_push, get_or_past, length_push}
 use Rattle.std.proofs.lemmas.Bool.{cases_lt}
 use Rattle.std.proofs.lemmas.Bool.Decides.{eqb_tells}
@@ -9,7 +9,6 @@ use Rattle.corner_table.specs.Tables.{slot_at}
 use Rattle.corner_table.specs.declared.table.Owner.TheVariants.{Level as LevelSlot, Attr as AttrSlot, Line as LineSlot}
 use Rattle.std.proofs.lemmas.List.Elements.{All-push}
 use Rattle.std.proofs.Math.ListN.{get_or-append}
-use Rattle.frac_core.proofs.Integers.{mul-zero_ℤ, zero-mul_ℤ}
 use Rattle.frac_core.specs.Fraction.{Fraction, IsFitting}
 use Rattle.frac_core.specs.Fraction as fractions
 use Rattle.row_core.specs.Rows.{IsKeptRow, Term, coefficient}
@@ -18,9 +17,8 @@ use Rattle.problem_core.specs.declared.parts.Side.{Side}
 use Rattle.problem_core.specs.declared.parts.Side.TheVariants.{Under, Over}
 use Rattle.problem_core.specs.declared.parts.Stay.{Stay}
 use Rattle.problem_core.specs.declared.parts.RowName.TheVariants.{Stay as StayOf}
-use Rattle.problem_core.specs.Layout.{HasStay, Line, Problem, Row, line_of_stay, lines, product_of, sum_of}
+use Rattle.problem_core.specs.Layout.{HasStay, Line, Problem, Row, lines, product_of, sum_of}
 use Rattle.problem_core.specs.Kept.{IsNumber}
-use Rattle.problem_core.specs.Certificates.{weight_at}
 use Rattle.problem_core.specs.Corners.{IsCorner, IsIn, Point, one_column, place_of}
 use Rattle.problem_core.specs.Rays.{HasRays}
 use Rattle.problem_core.specs.Levels.{IsCostAt, cost_at, line_cost, scales}
@@ -34,6 +32,7 @@ use Rattle.corner_lines.proofs.FrontsStay.{new_stay_leaves_levels}
 use Rattle.corner_lines.proofs.Costs.LevelFits.{reduced-by, reduced_by}
 use Rattle.corner_lines.proofs.Costs.LevelPlaces.{cost_everywhere}
 use Rattle.corner_lines.proofs.LevelRows.LevelSound.{whole_is_sound}
+use Rattle.corner_table.proofs.Basics.StayCosts.{free_stay}
 use Rattle.corner_lines.proofs.ProblemChanges.NewStays.{attr_corner, attr_rays, stands-before as stands_before}
 use Rattle.corner_table.specs.declared.table.Priority.{Priority}
 use Rattle.corner_table.specs.declared.table.Slot.{Slot}
@@ -47,10 +46,10 @@ use Rattle.corner_table.proofs.Readings.KeptFacts.{row_kept, zero_kept}
 use Rattle.corner_table.proofs.Readings.MarkFacts.{inside_stands}
 use Rattle.corner_table.proofs.Readings.SlotFacts.{named_slot, named_stay}
 use Rattle.corner_joins.proofs.Attributes.AttrJoins.{IsJoin, joined, joined_whole, lines_more, marks_joined, named_by, new_attr_row, new_kept_line, new_line, new_outside, no_number, old_attr_row, old_kept_line, old_number, old_row, old_standing, outside_joined, put_line, slots_joined, stay_here}
-use Rattle.corner_exchange.proofs.Basics.SmallFacts.{own_name, own_stay}
+use Rattle.corner_table.proofs.Basics.SmallFacts.{own_name, own_stay}
 use Rattle.frac_core.proofs.Fitting.{zero-fits as zero_fits}
 use Rattle.frac_core.proofs.Bools.{not-both as not_both}
-use Rattle.corner_writings.proofs.Basics.OwnerFacts.{stay_named}
+use Rattle.corner_table.proofs.Basics.OwnerFacts.{stay_named}
 
 -- ---- levels
 
@@ -148,13 +147,6 @@ product_push f (x ∷ xs) y e = ap (λ (n : ℕ). f x * n) (product_push f xs y 
 pub sum_push : (f : Line → ℤ) (xs : List Line) (y : Line) → f y ≡ pos 0 → sum_of f (xs ++ (y ∷ [])) ≡ sum_of f xs
 sum_push f [] y e = ap (λ (z : ℤ). z +ℤ pos 0) e
 sum_push f (x ∷ xs) y e = ap (λ (z : ℤ). f x +ℤ z) (sum_push f xs y e)
-
-pub free_stay : (q k level : ℕ) (attr : ℕ) (target : Fraction) (x : ℕ → ℤ) → level ≢ k → pos q *ℤ line_cost k x (line_of_stay level (new_stay attr target)) ≡ pos 0
-free_stay q k level attr target x ne =
-    let none : weight_at (line_of_stay level (new_stay attr target)) k ≡ 0 = ap (λ (b : Bool). cond b 1 0) (ne_eqb level k ne) in
-    ap (λ (n : ℕ). pos q *ℤ (pos n *ℤ x (place_of (StayOf attr) Under) +ℤ pos n *ℤ x (place_of (StayOf attr) Over))) none
-    ∙ ap₂ (λ (y z : ℤ). pos q *ℤ (y +ℤ z)) (zero-mul_ℤ (x (place_of (StayOf attr) Under))) (zero-mul_ℤ (x (place_of (StayOf attr) Over)))
-    ∙ mul-zero_ℤ (pos q)
 
 same_scales : (p : Problem) (attr : ℕ) (target : Fraction) → scales (with_attr attr target p) ≡ scales p
 same_scales p attr target = ap (product_of (λ (l : Line). l.scale)) (lines_more p attr target) ∙ product_push (λ (l : Line). l.scale) (lines p) (new_line p attr target) refl

@@ -2,9 +2,9 @@
 use Rattle.std.proofs.Common.{◌≡◌, ◌≢◌, ◌∙◌, ◌⊎◌, ℕ, ◌+◌, ◌<◌, ◌≤◌, Bool, cond, nat_eq, List, sym, ap, arith, inl, inr, pos, negsuc, ne_eqb, slice_index_or}
 use Rattle.row_core.specs.Rows.{IsKeptRow, Term, coefficient}
 use Rattle.row_core.proofs.Places.{coefficient_at}
-use Rattle.indexed_rows.specs.Matrices.{IsBelow}
+use Rattle.version_lists.specs.Matrices.{IsBelow}
 use Rattle.corner_table.specs.Joining.{IsStayForm}
-use Rattle.corner_exchange.proofs.Basics.SmallFacts.{below_or}
+use Rattle.corner_table.proofs.Basics.SmallFacts.{below_or}
 
 -- past both slots there is no number
 past_form : (w : ℕ) (row : List Term) (c : ℕ) → IsStayForm w row → w + 2 ≤ c → coefficient c row ≡ pos 0

@@ -1,10 +1,8 @@
--- What is used everywhere and says little: numbers, the weight of a line, histories of tables.
+-- What is used everywhere and says little: numbers, the weight of a line.
 use Rattle.std.proofs.Common.{◌≡◌, ◌∙◌, sym, ℤ, pos, ◌*ℤ◌, ℕ, ◌-◌, Bool, cond, ap, eq-eqb, suc, ◌+◌, arith}
 use Rattle.frac_core.proofs.Numbers.{times-one}
 use Rattle.problem_core.specs.Layout.{Row, line_of_row}
 use Rattle.problem_core.specs.Certificates.{weight_at}
-use Rattle.corner_table.specs.declared.table.Table.{Table}
-use Rattle.corner_table.specs.Histories.{HasSameHistory}
 
 pub one-step : (a b : ℤ) → a ≡ b → a ≡ b *ℤ pos 1
 one-step a b e = e ∙ sym (times-one b)
@@ -14,15 +12,3 @@ weight-there r l e = ap (λ (b : Bool). cond b r.weight 0) (eq-eqb (1000 - r.ran
 
 pub no-more : (n : ℕ) → suc n ≡ n + 1
 no-more n = omega arith
-
-pub same_again : (s t u : Table) → HasSameHistory s t → HasSameHistory t u → HasSameHistory s u
-same_again s t u a b = record {
-  rows = b.rows ∙ a.rows;
-  stays = b.stays ∙ a.stays;
-  slots = b.slots ∙ a.slots;
-  standings = b.standings ∙ a.standings;
-  matrix = b.matrix ∙ a.matrix;
-  attr_slots = b.attr_slots ∙ a.attr_slots;
-  row_slots = b.row_slots ∙ a.row_slots;
-  priorities = b.priorities ∙ a.priorities;
-}

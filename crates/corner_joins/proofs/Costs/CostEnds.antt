@@ -28,7 +28,7 @@ use Rattle.corner_joins.proofs.Costs.CostJoins.{part_of}
 use Rattle.corner_joins.proofs.Costs.CostSteps.{rise_unfit, unfit_join}
 use Rattle.std.proofs.lemmas.Bool.{cases_eq}
 use Rattle.row_core.proofs.Places.{coefficient_at}
-use Rattle.indexed_rows.specs.Matrices.{IsBelow}
+use Rattle.version_lists.specs.Matrices.{IsBelow}
 use Rattle.cert_core.specs.declared.stops.RunStop.{RunStop}
 use Rattle.cert_core.specs.declared.stops.RunStop.TheVariants.{Conflict, Unfit, Spent, OutOfMemory}
 use Rattle.corner_table.specs.Paths.{IsPathStop}

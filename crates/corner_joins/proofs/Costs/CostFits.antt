@@ -25,7 +25,7 @@ use Rattle.corner_joins.specs.Additions.CostJoins.{IsJoinedCost, IsJoinedRow, ho
 use Rattle.corner_table.proofs.Readings.MarkFacts.{inside_stands, stands_inside}
 use Rattle.corner_table.proofs.Readings.ReadFacts.{is_some}
 use Rattle.corner_exchange.proofs.Pivots.PairFacts.{named_mark, side-stands}
-use Rattle.corner_exchange.proofs.Basics.SmallFacts.{own_name}
+use Rattle.corner_table.proofs.Basics.SmallFacts.{own_name}
 use Rattle.corner_joins.proofs.Costs.CostLines.{next_sound}
 use Rattle.corner_joins.proofs.Costs.CostJoins.{joined_unit, part_of, row_fits, row_unfit}
 use Rattle.corner_joins.proofs.Costs.CostFound.{IsFound}

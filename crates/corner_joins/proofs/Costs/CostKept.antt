@@ -28,7 +28,7 @@ use Rattle.corner_table.specs.declared.table.TheConstants.{LEVELS}
 use Rattle.corner_table.specs.Tables.{Lists, attr_slot, entry, is_side, line_slot, marks_at, priority_at, problem_of, row_at, standing_at, stands_in}
 use Rattle.corner_table.specs.Kept.{AreOutside, AreSlots, IsAttrRow, IsEquationAt, IsLineRow, row_count}
 use Rattle.corner_joins.specs.Additions.Parts.{IsLevelPart, IsNextRow, IsPartlyKept}
-use Rattle.corner_exchange.specs.Swaps.Exchanges.{IsOutsideSlot}
+use Rattle.corner_table.specs.Kept.{IsOutsideSlot}
 use Rattle.corner_joins.specs.Additions.CostJoins.{HasOutside, IsJoinedCost, home_at, with_cost}
 use Rattle.corner_joins.proofs.Attributes.AttrJoins.{filter_same}
 

@@ -6,13 +6,13 @@ use Rattle.std.proofs.lemmas.List.Elements.{All-push}
 use Rattle.std.proofs.lemmas.Bool.{cases_lt}
 use Rattle.std.proofs.lemmas.List.{get_or_past, append-nil as append_none}
 use Rattle.row_core.specs.Rows.{IsKeptRow}
-use Rattle.indexed_rows.proofs.Indexing.{none_kept, number_at_column}
+use Rattle.version_lists.proofs.Indexing.{none_kept, number_at_column}
 use Rattle.problem_core.specs.declared.parts.Rel.TheVariants.{Eq}
 use Rattle.problem_core.specs.declared.parts.RowName.{RowName}
 use Rattle.corner_table.specs.declared.table.Owner.TheVariants.{Level as LevelSlot}
 use Rattle.corner_table.specs.declared.table.Slot.{Slot}
 use Rattle.corner_table.specs.Reads.LevelNumbers.{side_share}
-use Rattle.indexed_rows.specs.Lists.{HasColumn}
+use Rattle.version_lists.specs.Lists.{HasColumn}
 use Rattle.cert_core.specs.declared.stops.RunStop.{RunStop}
 use Rattle.cert_core.specs.declared.stops.RunStop.TheVariants.{Conflict, Unfit, Spent, OutOfMemory}
 use Rattle.problem_core.specs.declared.parts.Mark.{Mark}

@@ -18,15 +18,15 @@ use Rattle.corner_lines.proofs.Costs.LevelFits.{divided}
 use Rattle.corner_table.specs.declared.table.TheConstants.{LEVELS}
 use Rattle.corner_table.specs.Tables.{Lists, entry, line_slot, marks_at, number, priority_at, problem_of}
 use Rattle.corner_table.specs.Kept.{IsSlot, level_own}
-use Rattle.corner_exchange.specs.Swaps.Exchanges.{IsOutsideSlot}
+use Rattle.corner_table.specs.Kept.{IsOutsideSlot}
 use Rattle.corner_joins.specs.Additions.Parts.{IsPartlyKept}
 use Rattle.corner_joins.specs.Additions.CostJoins.{IsShare, shared_whole, with_next}
 use Rattle.corner_table.proofs.Readings.SlotFacts.{named_slot}
 use Rattle.corner_exchange.proofs.Basics.RowEquations.{AreTermsOf}
-use Rattle.corner_writings.proofs.Basics.OwnerFacts.{line-owned}
+use Rattle.corner_table.proofs.Basics.OwnerFacts.{line-owned}
 use Rattle.corner_writings.proofs.LevelFacts.LevelRowFacts.{out_line}
 use Rattle.corner_table.proofs.Readings.WritingFacts.{lines_apart, number_is}
-use Rattle.corner_exchange.proofs.Basics.SmallFacts.{own_name}
+use Rattle.corner_table.proofs.Basics.SmallFacts.{own_name}
 use Rattle.corner_writings.proofs.Basics.SmallFacts.{zero_unless}
 use Rattle.corner_joins.proofs.Costs.CostLines.{IsNextAt, first_names, next_equation, next_home, next_in, next_named, whole_names}
 use Rattle.corner_joins.proofs.Costs.CostJoins.{IsCostJoin, below_levels, joined_row, joined_sum, part_of, size_of}

@@ -29,12 +29,12 @@ use Rattle.corner_table.specs.Tables.{marks_over, slot_at, standing_at}
 use Rattle.problem_core.specs.Changes.Begins.{BeginsWith}
 use Rattle.corner_table.specs.Kept.{IsKept, IsLineAt}
 use Rattle.corner_joins.specs.Additions.RowJoins.{ArePushed}
-use Rattle.indexed_rows.specs.Lists.{HasColumn}
+use Rattle.version_lists.specs.Lists.{HasColumn}
 use Rattle.cert_core.specs.declared.stops.RunStop.{RunStop}
 use Rattle.cert_core.specs.declared.stops.RunStop.TheVariants.{Conflict, Unfit, Spent, OutOfMemory}
 use Rattle.problem_core.specs.declared.parts.Level.TheVariants.{Priority as PriorityLevel}
 use Rattle.problem_core.specs.declared.stops.Quantity.TheVariants.{Rows}
-use Rattle.corner_exchange.specs.Swaps.Exchanges.{IsOutsideSlot}
+use Rattle.corner_table.specs.Kept.{IsOutsideSlot}
 use Rattle.corner_writings.specs.Rows.{row_number}
 use Rattle.corner_table.specs.Reads.LevelNumbers.{share_of, side_share}
 use Rattle.corner_joins.specs.Additions.Parts.{IsNextRow, IsPartlyKept, IsRowsStop}

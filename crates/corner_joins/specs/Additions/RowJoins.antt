@@ -12,7 +12,7 @@ use Rattle.corner_joins.specs.declared.joining.Sum.{Sum}
 use Rattle.corner_table.specs.declared.table.Standing.{Standing}
 use Rattle.corner_table.specs.declared.table.TheConstants.{MOST_SLOTS}
 use Rattle.corner_table.specs.Tables.{Lists, line_slot, problem_of, row_at, standing_at}
-use Rattle.number_slots.specs.Numbers.{IsNumbered}
+use Rattle.version_lists.specs.Numbers.{IsNumbered}
 use Rattle.corner_table.specs.Joining.{slot_of_row}
 use Rattle.corner_exchange.specs.Swaps.Exchanges.{opposite}
 use Rattle.corner_table.specs.Views.{IsNamed}

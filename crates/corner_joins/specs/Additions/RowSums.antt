@@ -11,9 +11,10 @@ use Rattle.corner_lines.specs.Joins.{over_joined}
 use Rattle.corner_joins.specs.declared.joining.Sum.{Sum}
 use Rattle.corner_table.specs.declared.table.Standing.{Standing}
 use Rattle.corner_table.specs.Tables.{Lists, attr_slot, entry, marks_at, standing_at}
-use Rattle.number_slots.specs.Numbers.{IsNumbered}
+use Rattle.version_lists.specs.Numbers.{IsNumbered}
 use Rattle.corner_table.specs.Joining.{at_zero, slot_of_row}
-use Rattle.corner_exchange.specs.Swaps.Exchanges.{IsEquationBy, IsOutsideSlot}
+use Rattle.corner_exchange.specs.Swaps.Exchanges.{IsEquationBy}
+use Rattle.corner_table.specs.Kept.{IsOutsideSlot}
 
 -- with the row in the next slot, which has this standing and this row of numbers
 abbrev pub with_pushed : Row → Standing → List Term → List ℕ → Lists → Lists

@@ -10,7 +10,7 @@ use Rattle.problem_core.specs.declared.parts.Side.TheVariants.{Under, Over}
 use Rattle.problem_core.specs.declared.parts.RowName.TheVariants.{Held, Stay as StayOf}
 use Rattle.problem_core.specs.Changes.Paths.{last_marks}
 use Rattle.problem_core.specs.Corners.{Point, IsIn, StandsAt, SameMarks, Swap, one_column, place, place_of}
-use Rattle.problem_core.specs.Changes.Begins.{IsJoined, BeginsWith, ComesFrom, is_one_of, without_marks}
+use Rattle.problem_core.specs.Changes.Begins.{IsFreeing, IsJoined, BeginsWith, ComesFrom, is_one_of, without_marks}
 use Rattle.corner_laws.specs.Examples.{single, at_least, under_row, over_row}
 use Rattle.corner_laws.proofs.Instances.PathExamples.{no, over-numbers, under_point, under-stands, over_point, over-stands, below-five}
 use Rattle.problem_core.proofs.Marks.{kept-rows}
@@ -64,7 +64,7 @@ empty-same = (All-from_recursion (λ k. IsIn (place k) []) [] tt, All-from_recur
 pub comes_from : ComesFrom (single 5) (under_row ∷ []) (1 ∷ []) (1 ∷ []) []
 comes_from = record {
   frees = [];
-  rows = All-from_recursion (λ (s : Swap). is_one_of (1 ∷ []) s.enter.row ≡ true) [] tt;
+  each = All-from_recursion (IsFreeing (under_row ∷ []) (1 ∷ [])) [] tt;
   apart = λ i j d less within. absurd (omega (arith, within));
   exchanges = tt;
   same = tt;

@@ -1,6 +1,6 @@
 -- The lists of earlier marks side by side.
-use Rattle.std.proofs.Common.{◌≡◌, ◌-◌, ◌<◌, ℕ, zero, suc, List, [], ◌∷◌, length, take, drop, slice_index_or, refl, ap, arith}
-use Rattle.version_list.specs.declared.TheConstants.{VERSION_LIMIT}
+use Rattle.std.proofs.Common.{◌≡◌, ◌∙◌, ◌-◌, ◌<◌, ℕ, zero, suc, List, [], ◌∷◌, length, take, drop, slice_index_or, refl, sym, ap, arith}
+use Rattle.version_lists.specs.declared.versions.TheConstants.{VERSION_LIMIT}
 use Rattle.row_core.specs.Rows.{Term}
 use Rattle.problem_core.specs.Layout.{Row}
 use Rattle.problem_core.specs.declared.parts.Stay.{Stay}
@@ -9,7 +9,7 @@ use Rattle.corner_table.specs.declared.table.Standing.{Standing}
 use Rattle.corner_table.specs.declared.table.Priority.{Priority}
 use Rattle.corner_table.specs.declared.table.Table.{Table}
 use Rattle.corner_table.specs.Tables.{Lists, lists_of}
-use Rattle.corner_table.specs.Histories.{AreAlike, lists_before, side_by_side}
+use Rattle.corner_table.specs.Histories.{AreAlike, HasSameHistory, lists_before, side_by_side}
 
 -- the first n of each are the first n of them side by side
 pub taken : (n : ℕ) (rs : List (List Row)) (ss : List (List Stay)) (ls : List (List Slot)) (vs : List (List Standing)) (ms : List (List (List Term))) (bs ds : List (List ℕ)) (ps : List (List Priority))
@@ -116,3 +116,39 @@ sided (r ∷ rs) (s ∷ ss) (l ∷ ls) (v ∷ vs) (m ∷ ms) (x ∷ bs) (y ∷ d
 sided (r ∷ rs) (s ∷ ss) (l ∷ ls) (v ∷ vs) (m ∷ ms) (x ∷ bs) (y ∷ ds) (p ∷ ps) a b c d e f g =
     let h = sided rs ss ls vs ms bs ds ps (omega (arith, a)) (omega (arith, b)) (omega (arith, c)) (omega (arith, d)) (omega (arith, e)) (omega (arith, f)) (omega (arith, g)) in
     omega (arith, h)
+
+-- ---- tables with the same earlier versions
+
+pub same_again : (s t u : Table) → HasSameHistory s t → HasSameHistory t u → HasSameHistory s u
+same_again s t u a b = record {
+  rows = b.rows ∙ a.rows;
+  stays = b.stays ∙ a.stays;
+  slots = b.slots ∙ a.slots;
+  standings = b.standings ∙ a.standings;
+  matrix = b.matrix ∙ a.matrix;
+  attr_slots = b.attr_slots ∙ a.attr_slots;
+  row_slots = b.row_slots ∙ a.row_slots;
+  priorities = b.priorities ∙ a.priorities;
+}
+
+pub past_same : (t u : Table) → HasSameHistory t u → lists_before u ≡ lists_before t
+past_same t u h =
+    ap (λ x. side_by_side x u.stays.before u.slots.before u.standings.before u.matrix.before u.attr_slots.before u.row_slots.before u.priorities.before) h.rows
+    ∙ ap (λ x. side_by_side t.rows.before x u.slots.before u.standings.before u.matrix.before u.attr_slots.before u.row_slots.before u.priorities.before) h.stays
+    ∙ ap (λ x. side_by_side t.rows.before t.stays.before x u.standings.before u.matrix.before u.attr_slots.before u.row_slots.before u.priorities.before) h.slots
+    ∙ ap (λ x. side_by_side t.rows.before t.stays.before t.slots.before x u.matrix.before u.attr_slots.before u.row_slots.before u.priorities.before) h.standings
+    ∙ ap (λ x. side_by_side t.rows.before t.stays.before t.slots.before t.standings.before x u.attr_slots.before u.row_slots.before u.priorities.before) h.matrix
+    ∙ ap (λ x. side_by_side t.rows.before t.stays.before t.slots.before t.standings.before t.matrix.before x u.row_slots.before u.priorities.before) h.attr_slots
+    ∙ ap (λ x. side_by_side t.rows.before t.stays.before t.slots.before t.standings.before t.matrix.before t.attr_slots.before x u.priorities.before) h.row_slots
+    ∙ ap (λ x. side_by_side t.rows.before t.stays.before t.slots.before t.standings.before t.matrix.before t.attr_slots.before t.row_slots.before x) h.priorities
+
+pub alike_same : (t u : Table) → HasSameHistory t u → AreAlike t → AreAlike u
+alike_same t u h a = record {
+  stays = ap length h.stays ∙ a.stays ∙ sym (ap length h.rows);
+  slots = ap length h.slots ∙ a.slots ∙ sym (ap length h.rows);
+  standings = ap length h.standings ∙ a.standings ∙ sym (ap length h.rows);
+  matrix = ap length h.matrix ∙ a.matrix ∙ sym (ap length h.rows);
+  attr_slots = ap length h.attr_slots ∙ a.attr_slots ∙ sym (ap length h.rows);
+  row_slots = ap length h.row_slots ∙ a.row_slots ∙ sym (ap length h.rows);
+  priorities = ap length h.priorities ∙ a.priorities ∙ sym (ap length h.rows);
+}

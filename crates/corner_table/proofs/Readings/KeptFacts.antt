@@ -11,7 +11,7 @@ use Rattle.frac_core.specs.Fraction.{Fraction, IsFitting, IsLowest}
 use Rattle.frac_core.specs.Fraction as fractions
 use Rattle.row_core.specs.Rows.{IsKeptRow, Term, coefficient}
 use Rattle.row_core.proofs.Places.{of_coefficients}
-use Rattle.indexed_rows.proofs.Indexing.{none_kept}
+use Rattle.version_lists.proofs.Indexing.{none_kept}
 use Rattle.problem_core.specs.declared.parts.Mark.{Mark}
 use Rattle.problem_core.specs.declared.parts.RowName.{RowName}
 use Rattle.problem_core.specs.declared.parts.RowName.TheVariants.{Stay as StayOf}

@@ -11,7 +11,7 @@ use Rattle.corner_table.specs.Reads.LevelNumbers.{HasReducedAt, IsFirstInColumn,
 use Rattle.corner_table.proofs.Readings.SlotFacts.{any_is, named_stay}
 use Rattle.corner_writings.specs.declared.levels.Found.{Found}
 use Rattle.corner_writings.specs.Walks.{IsReducedThere}
-use Rattle.corner_writings.proofs.Basics.OwnerFacts.{line-owned, stay_owner}
+use Rattle.corner_table.proofs.Basics.OwnerFacts.{line-owned, stay_owner}
 use Rattle.corner_writings.proofs.LevelFacts.LevelFrontFacts.{before_in, column_before_home, home_alone, home_before_column, none_in}
 
 -- the slot's rank

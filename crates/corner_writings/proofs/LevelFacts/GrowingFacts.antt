@@ -3,8 +3,8 @@ use Rattle.std.proofs.Common.{◌≡◌, ◌≢◌, ◌∙◌, inl, inr, ℕ, ze
 use borrow.Author.Differences.{ints}
 use Rattle.row_core.specs.Rows.{IsKeptRow, IsRising, Term, coefficient}
 use Rattle.row_core.proofs.Places.{coefficient_at}
-use Rattle.indexed_rows.specs.Lists.{HasColumn}
-use Rattle.indexed_rows.proofs.Indexing.{number_at_column}
+use Rattle.version_lists.specs.Lists.{HasColumn}
+use Rattle.version_lists.proofs.Indexing.{number_at_column}
 use Rattle.problem_core.specs.declared.parts.Level.{Level}
 use Rattle.problem_core.specs.declared.parts.Mark.{Mark}
 use Rattle.problem_core.specs.declared.parts.RowName.{RowName}

@@ -22,7 +22,7 @@ use Rattle.corner_writings.proofs.LevelFacts.LevelNumberFacts.{home_is, named_li
 use Rattle.corner_table.proofs.Readings.SlotFacts.{any_impl, named_slot}
 use Rattle.corner_writings.proofs.LevelFacts.LevelReadFacts.{reduced_elsewhere}
 use Rattle.corner_writings.proofs.LevelFacts.LevelRowFacts.{times-above, times-below}
-use Rattle.corner_writings.proofs.Basics.OwnerFacts.{stay_owner}
+use Rattle.corner_table.proofs.Basics.OwnerFacts.{stay_owner}
 use Rattle.frac_core.proofs.Lists.{each-at, pairs-rest as tail_pairs}
 
 -- ---- lists that rise

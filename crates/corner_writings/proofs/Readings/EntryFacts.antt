@@ -5,8 +5,8 @@ use Rattle.std.proofs.lemmas.Bool.{cases_eq}
 use Rattle.std.proofs.lemmas.List.Elements.{All-contains, recursion_from_All}
 use Rattle.std.proofs.lemmas.List.Kept.{AllPairs-cons}
 use Rattle.row_core.specs.Rows.{IsKeptRow, IsRising, Term}
-use Rattle.indexed_rows.specs.Lists.{HasColumn}
-use Rattle.indexed_rows.proofs.Indexing.{number_at_column}
+use Rattle.version_lists.specs.Lists.{HasColumn}
+use Rattle.version_lists.proofs.Indexing.{number_at_column}
 use Rattle.problem_core.specs.declared.parts.Mark.{Mark}
 use Rattle.problem_core.specs.declared.parts.RowName.{RowName}
 use Rattle.problem_core.specs.declared.parts.Side.{Side}

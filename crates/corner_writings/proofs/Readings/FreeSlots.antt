@@ -9,7 +9,7 @@ use Rattle.corner_table.specs.Kept.{AreSlots, AreStored}
 use Rattle.corner_table.specs.Tables.{Lists, entry, problem_of, slot_at}
 use Rattle.corner_table.specs.Views.{IsNamed}
 use Rattle.std.proofs.Common.{subst, sym}
-use Rattle.corner_writings.proofs.Basics.OwnerFacts.{line-owned, line-like}
+use Rattle.corner_table.proofs.Basics.OwnerFacts.{line-owned, line-like}
 
 -- a slot past the levels' with a number in its row is of something
 pub not_free : (t : Lists) (w c : ℕ) → AreStored t → LEVELS ≤ w → entry t w c ≢ pos 0 → (slot_at t w).owner ≡ LevelSlot → ⊥

@@ -15,7 +15,7 @@ use Rattle.corner_table.specs.Tables.{AreMoved, Lists, entry, line_slot, marks_a
 use Rattle.corner_table.specs.Invariants.{name_of}
 use Rattle.corner_table.specs.Kept.{IsKept, IsOwned, IsSlot}
 use Rattle.corner_writings.specs.Lows.{IsListedIfLow, IsLowSlot, HasSide, ListsLow, ListsSlot, ListsSlots, name_at}
-use Rattle.corner_writings.proofs.Basics.OwnerFacts.{stay_named}
+use Rattle.corner_table.proofs.Basics.OwnerFacts.{stay_named}
 use Rattle.corner_writings.proofs.Readings.FreeSlots.{not_free}
 use Rattle.corner_table.proofs.Readings.MarkFacts.{inside_stands}
 use Rattle.corner_writings.proofs.Readings.MovedFacts.{moves_entry, none_some, only_other}

@@ -1,5 +1,5 @@
 -- Rows with other constants.
-use Rattle.std.proofs.Common.{◌≡◌, ◌≢◌, ◌∙◌, ℕ, zero, suc, ◌+◌, ◌<◌, Bool, cond, List, [], ◌∷◌, ◌++◌, length, map, take, get_or, refl, sym, ap, ap₂, arith, All, AllPairs, inl, inr, eq-eqb, add-one}
+use Rattle.std.proofs.Common.{◌≡◌, ◌≢◌, ◌∙◌, ℕ, zero, suc, ◌<◌, Bool, cond, List, [], ◌∷◌, ◌++◌, length, map, get_or, refl, sym, ap, ap₂, arith, All, AllPairs, inl, inr, eq-eqb}
 use Rattle.std.specs.List.{Any, AllByRecursion as Each}
 use Rattle.std.proofs.lemmas.Bool.{cases_eq, cases_lt}
 use Rattle.std.proofs.lemmas.List.{map-append, get_or_default}
@@ -121,50 +121,3 @@ near-at p k b to rising within is from_above to_above near = (
             ap (λ (r : Row). r.constant) (get_or_default p.rows i d b inside ∙ ap (λ (j : ℕ). get_or p.rows j b) same ∙ is)
       ]
     ]
-
--- ---- change by change, and row by row
-
-shifted-last : (to : List Change) (c : Change) (rows : List Row) → shifted (to ++ c ∷ []) rows ≡ map (has_constant c.row c.constant) (shifted to rows)
-shifted-last [] c rows = refl
-shifted-last (b ∷ to) c rows = shifted-last to c (map (has_constant b.row b.constant) rows)
-
-first-suc : {X : Type 0} (xs : List X) (i : ℕ) (x : X) → i < length xs → x ≡ get_or xs i x → take (suc i) xs ≡ take i xs ++ x ∷ []
-first-suc [] i x within is = absurd (omega (arith, within))
-first-suc (y ∷ xs) zero x within is = ap (λ z. z ∷ []) (sym is)
-first-suc (y ∷ xs) (suc i) x within is = ap (λ zs. y ∷ zs) (first-suc xs i x (omega (arith, within)) is)
-
-first-more : {X : Type 0} (xs : List X) (i : ℕ) (x : X) → i < length xs → x ≡ get_or xs i x → take (i + 1) xs ≡ take i xs ++ x ∷ []
-first-more xs i x within is = ap (λ (n : ℕ). take n xs) (add-one i) ∙ first-suc xs i x within is
-
--- the row after one change more
-shift-next : (to : List Change) (i : ℕ) (c : Change) (r : Row) (f : Fraction) → i < length to → c ≡ get_or to i c → shifted (take i to) (r ∷ []) ≡ changed f r ∷ []
-    → shifted (take (i + 1) to) (r ∷ []) ≡ has_constant c.row c.constant (changed f r) ∷ []
-shift-next to i c r f within is before =
-    ap (λ (cs : List Change). shifted cs (r ∷ [])) (first-more to i c within is) ∙ shifted-last (take i to) c (r ∷ []) ∙ ap (map (has_constant c.row c.constant)) before
-
-pub next-on : (to : List Change) (i : ℕ) (c : Change) (r : Row) (f : Fraction) → i < length to → c ≡ get_or to i c → shifted (take i to) (r ∷ []) ≡ changed f r ∷ [] → c.row ≡ r.id
-    → shifted (take (i + 1) to) (r ∷ []) ≡ changed c.constant r ∷ []
-next-on to i c r f within is before on = shift-next to i c r f within is before ∙ ap (λ (s : Row). s ∷ []) (shift-on c.row c.constant (changed f r) (sym on))
-
-pub next-off : (to : List Change) (i : ℕ) (c : Change) (r : Row) (f : Fraction) → i < length to → c ≡ get_or to i c → shifted (take i to) (r ∷ []) ≡ changed f r ∷ [] → c.row ≢ r.id
-    → shifted (take (i + 1) to) (r ∷ []) ≡ changed f r ∷ []
-next-off to i c r f within is before off = shift-next to i c r f within is before ∙ ap (λ (s : Row). s ∷ []) (shift-off c.row c.constant (changed f r) (λ e. off (sym e)))
-
--- whether the change is of this row or not
-pub next-either : (to : List Change) (i : ℕ) (c : Change) (r : Row) (f g : Fraction) → i < length to → c ≡ get_or to i c → shifted (take i to) (r ∷ []) ≡ changed f r ∷ [] → (c.row ≡ r.id → g ≡ c.constant) → (c.row ≢ r.id → g ≡ f)
-    → shifted (take (i + 1) to) (r ∷ []) ≡ changed g r ∷ []
-next-either to i c r f g within is before on off = elim (cases_eq c.row r.id) [
-  | inl same ↦ next-on to i c r f within is before same ∙ ap (λ (h : Fraction). changed h r ∷ []) (sym (on same))
-  | inr other ↦ next-off to i c r f within is before other ∙ ap (λ (h : Fraction). changed h r ∷ []) (sym (off other))
-]
-
-pub shifted-none : (to : List Change) → shifted to [] ≡ []
-shifted-none [] = refl
-shifted-none (c ∷ to) = shifted-none to
-
--- the rows with the one at the next place
-pub shifted-next : (to : List Change) (rows after : List Row) (i : ℕ) (r s : Row) → i < length rows → r ≡ get_or rows i r → after ≡ shifted to (take i rows) → shifted to (r ∷ []) ≡ s ∷ []
-    → after ++ s ∷ [] ≡ shifted to (take (i + 1) rows)
-shifted-next to rows after i r s within is before one =
-    ap₂ (λ (xs ys : List Row). xs ++ ys) before (sym one) ∙ sym (shifted-append to (take i rows) (r ∷ []))
-    ∙ sym (ap (shifted to) (first-more rows i r within is))

@@ -1,5 +1,5 @@
 -- The attributes of compiled rows are those of views.
-use Rattle.std.proofs.Common.{◌≡◌, ℕ, ◌+◌, ◌*◌, ◌<◌, true, false, cond, List, [], ◌∷◌, get_or, Option, Some, None, pos, ℤ, ◌*ℤ◌, refl, sym, ap, subst, ◌∙◌, arith, inl, inr, All, ne_eqb, mul-pos}
+use Rattle.std.proofs.Common.{◌≡◌, ℕ, ◌+◌, ◌*◌, ◌<◌, Bool, true, false, cond, List, [], ◌∷◌, get_or, Option, Some, None, pos, ℤ, ◌*ℤ◌, refl, sym, ap, subst, ◌∙◌, arith, inl, inr, All, ne_eqb, mul-pos}
 use Rattle.std.specs.List.{Contains, AllByRecursion as Each}
 use Rattle.std.specs.Str.{bytes_eq}
 use Rattle.std.proofs.lemmas.Option.{none-some, same_Some}
@@ -9,9 +9,8 @@ use Rattle.frac_core.proofs.Integers.{mul-zero_ℤ}
 use Rattle.problem_core.specs.Layout.{coefficient}
 use Rattle.view_tree.specs.Views.{LiveView, view_named}
 use Rattle.script_text.specs.declared.words.AttrWord.{AttrWord}
-use Rattle.script_text.specs.declared.words.AttrWord.TheVariants as word
 use Rattle.script_text.specs.Meaning as mean
-use Rattle.compile_parts.specs.Meaning.{HasDenominator, horizontal, vertical, doubled, share, share_in, sum_at}
+use Rattle.compile_parts.specs.Meaning.{HasDenominator, attr_sum, doubled, edge_and_size, share, share_in, sum_at}
 use Rattle.constraint_compile.specs.Compiled.{RowForm}
 use Rattle.compile_parts.specs.Steps.{last_scale}
 use Rattle.constraint_compile.specs.Stops.{IsSumRow}
@@ -30,23 +29,12 @@ without a b v e s first second = rw (ne_eqb a v first, ne_eqb b v second) refl
 abbrev pub IsElsewhere : ℕ → ℕ → Type 0
 IsElsewhere id v = Contains (view_attributes id) v → ⊥
 
-sideways : (id v e s : ℕ) → IsElsewhere id v → coefficient v (horizontal id e s) ≡ pos 0
-sideways id v e s off = without (4 * id + 1) (4 * id + 3) v (pos e) (pos s) (λ q. off (subst (Contains (view_attributes id)) q (contains-left id))) (λ q. off (subst (Contains (view_attributes id)) q (contains-width id)))
-
-upright : (id v e s : ℕ) → IsElsewhere id v → coefficient v (vertical id e s) ≡ pos 0
-upright id v e s off = without (4 * id + 2) (4 * id + 4) v (pos e) (pos s) (λ q. off (subst (Contains (view_attributes id)) q (contains-top id))) (λ q. off (subst (Contains (view_attributes id)) q (contains-height id)))
+no-edge-or-size : (is_across : Bool) (id v e s : ℕ) → IsElsewhere id v → coefficient v (edge_and_size is_across id e s) ≡ pos 0
+no-edge-or-size true id v e s off = without (4 * id + 1) (4 * id + 3) v (pos e) (pos s) (λ q. off (subst (Contains (view_attributes id)) q (contains-left id))) (λ q. off (subst (Contains (view_attributes id)) q (contains-width id)))
+no-edge-or-size false id v e s off = without (4 * id + 2) (4 * id + 4) v (pos e) (pos s) (λ q. off (subst (Contains (view_attributes id)) q (contains-top id))) (λ q. off (subst (Contains (view_attributes id)) q (contains-height id)))
 
 no-coefficient : (id v : ℕ) (w : AttrWord) → IsElsewhere id v → coefficient v (doubled id w) ≡ pos 0
-no-coefficient id v word.Left off = sideways id v 2 0 off
-no-coefficient id v word.Leading off = sideways id v 2 0 off
-no-coefficient id v word.Right off = sideways id v 2 2 off
-no-coefficient id v word.Trailing off = sideways id v 2 2 off
-no-coefficient id v word.CenterX off = sideways id v 2 1 off
-no-coefficient id v word.Width off = sideways id v 0 2 off
-no-coefficient id v word.Top off = upright id v 2 0 off
-no-coefficient id v word.Bottom off = upright id v 2 2 off
-no-coefficient id v word.CenterY off = upright id v 2 1 off
-no-coefficient id v word.Height off = upright id v 0 2 off
+no-coefficient id v w off = no-edge-or-size (attr_sum w).is_across id v _ _ off
 
 -- ---- views that are found by their names
 

@@ -1,7 +1,6 @@
 -- Items of the code that leave, one after the other.
 use Rattle.std.proofs.Common.{◌≡◌, ◌||◌, ℕ, zero, suc, ◌+◌, ◌<◌, ◌≤◌, Some, Bool, true, false, cond, not, List, [], ◌∷◌, ◌++◌, drop, filter, length, take, get_or, slice_get, refl, sym, ap, subst, ◌∙◌, append_assoc, true≢false, arith}
 use Rattle.std.proofs.lemmas.List.{append-nil, drop_all, take_all, take_more}
-use Rattle.std.proofs.lemmas.List.Elements.{filter_more}
 use Rattle.std.proofs.lemmas.Option.{same_Some}
 use Rattle.std.specs.List.{list_any, remove}
 use Rattle.held_items.specs.declared.item.Item as declared
@@ -136,16 +135,3 @@ pub attributes-next : (gone : List ℕ) (i d : ℕ) (old new : List ℕ) → i <
 attributes-next gone i d old new within before pushed =
     pushed ∙ ap (λ ns. ns ++ view_attributes (get_or gone i d)) before
     ∙ sym (ap attributes_in (take_more gone i d within) ∙ attributes-append (take i gone) (get_or gone i d ∷ []))
-
--- ---- elements of others, one after the other
-
-module _ {X : Type 0} (p : X → Bool) where
-  pub kept-next : (xs : List X) (i : ℕ) (x : X) (old new : List X) → i < length xs → x ≡ get_or xs i x → old ≡ filter p (take i xs) → p x ≡ true → new ≡ old ++ x ∷ [] → new ≡ filter p (take (i + 1) xs)
-  kept-next xs i x old new within read before is pushed =
-      pushed ∙ ap (λ ys. ys ++ x ∷ []) before ∙ ap (λ b. filter p (take i xs) ++ cond b (x ∷ []) []) (sym is)
-      ∙ ap (λ y. filter p (take i xs) ++ cond (p y) (y ∷ []) []) read ∙ sym (filter_more p xs i x within)
-
-  pub left-next : (xs : List X) (i : ℕ) (x : X) (old new : List X) → i < length xs → x ≡ get_or xs i x → old ≡ filter p (take i xs) → p x ≡ false → new ≡ old → new ≡ filter p (take (i + 1) xs)
-  left-next xs i x old new within read before is same =
-      same ∙ before ∙ sym (append-nil (filter p (take i xs))) ∙ ap (λ b. filter p (take i xs) ++ cond b (x ∷ []) []) (sym is)
-      ∙ ap (λ y. filter p (take i xs) ++ cond (p y) (y ∷ []) []) read ∙ sym (filter_more p xs i x within)

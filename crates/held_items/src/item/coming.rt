@@ -12,7 +12,7 @@ use crate::item::Item;
 use crate::row_numbers::VIEW_ROWS;
 use frac_core::OutOfMemory;
 use std::alloc::Global;
-use version_list::VersionList;
+use version_lists::VersionList;
 use view_tree::{Tree, ViewId};
 
 /// The views with some more. These are so many as `count`, and their numbers go up one by one from

@@ -33,15 +33,6 @@ pub struct IntrinsicSize {
     pub hug: u16,
 }
 
-/// A size of a view that may be held.
-#[derive(Clone, Copy)]
-pub enum NewIntrinsic {
-    /// The first of its view, which takes four rows.
-    First(IntrinsicSize),
-    /// One that is held, with other constants.
-    Again(IntrinsicSize),
-}
-
 /// Whether the item is the size of this view.
 pub fn is_intrinsic(item: &Item, view: u32) -> bool
     ensures { result ≡ is_intrinsic view (item_of item.now) }

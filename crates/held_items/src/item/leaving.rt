@@ -2,7 +2,8 @@
 ghost use Rattle.std.specs.Prelude.{◌≡◌, ◌∷◌, ◌++◌, ◌<◌, ◌≤◌, length, All, IfOk, OnOk, OnErr, nat_eq};
 ghost use Rattle.std.specs.List.{list_any};
 ghost use Rattle.view_tree.specs.declared.limits.TheConstants.{ID_LIMIT};
-ghost use Rattle.held_items.specs.Kept.{item_of, items_of, is_leaving, IsItem};
+ghost use Rattle.held_items.specs.Kept.{HasSmallViews, IsItem, is_leaving, item_of, items_of};
+ghost use Rattle.held_items.specs.Kept.{leaving_attributes};
 ghost use Rattle.held_items.specs.Leaving.{attributes_in, goes_with, is_in_group, item_numbers, numbers_of};
 ghost use Rattle.held_items.specs.Leaving.{staying};
 ghost use Rattle.held_items.specs.declared.limits.TheConstants.{EARLIER};
@@ -15,9 +16,10 @@ use crate::item::suggesting::is_suggestion;
 use crate::row_numbers::{HEIGHT_ROW, LEFT_ROW, TOP_ROW, WIDTH_ROW};
 use constraint_compile::Compiled;
 use frac_core::OutOfMemory;
+use name_tables::OwnedName;
 use script_text::AttrWord;
 use std::alloc::Global;
-use version_list::VersionList;
+use version_lists::VersionList;
 use view_tree::ViewId;
 
 // Whether the item is a line of this group.
@@ -91,12 +93,12 @@ pub fn push_numbers(numbers: &mut Vec<u32>, item: &Item) -> Result<(), OutOfMemo
 }
 
 /// What leaves.
-#[derive(Clone, Copy)]
-pub enum Leaver<'a> {
+#[derive(Drop)]
+pub enum Leaver {
     /// The lines of a group.
-    Group(&'a [u8]),
+    Group(OwnedName),
     /// Views, the lines that name one of them, and their suggestions and sizes.
-    Views(&'a [u32]),
+    Views(Vec<u32>),
     /// The suggestion of an attribute of a view.
     Suggestion(u32, AttrWord),
     /// The size of a view.
@@ -104,14 +106,14 @@ pub enum Leaver<'a> {
 }
 
 // Whether the item is one of those that leave.
-fn is_leaving(item: &Item, leaver: Leaver<'_>) -> bool
-    ensures { result ≡ is_leaving leaver.entry (item_of item.now) }
+fn is_leaving(item: &Item, leaver: &Leaver) -> bool
+    ensures { result ≡ is_leaving leaver.now (item_of item.now) }
 {
     match leaver {
-        Leaver::Group(name) => is_in_group(item, name),
+        Leaver::Group(name) => is_in_group(item, name.bytes()),
         Leaver::Views(gone) => goes_with(item, gone),
-        Leaver::Suggestion(view, word) => is_suggestion(item, view, word),
-        Leaver::Intrinsic(view) => is_intrinsic(item, view),
+        Leaver::Suggestion(view, word) => is_suggestion(item, *view, *word),
+        Leaver::Intrinsic(view) => is_intrinsic(item, *view),
     }
 }
 
@@ -119,11 +121,11 @@ fn is_leaving(item: &Item, leaver: Leaver<'_>) -> bool
 pub fn leaving_numbers(
     alloc: Global,
     items: &[Item],
-    leaver: Leaver<'_>,
+    leaver: &Leaver,
 ) -> Result<Vec<u32>, OutOfMemory>
     requires { All IsItem (items_of items.now) }
     ensures { IfOk result
-        (λ numbers. numbers.items ≡ numbers_of (is_leaving leaver.entry) (items_of items.now)) }
+        (λ numbers. numbers.items ≡ numbers_of (is_leaving leaver.now) (items_of items.now)) }
 {
     let mut numbers = Vec::new(alloc);
     for item in items {
@@ -134,8 +136,8 @@ pub fn leaving_numbers(
     Ok(numbers)
 }
 
-/// The attributes of these views.
-pub fn attributes_in(alloc: Global, gone: &[u32]) -> Result<Vec<u32>, OutOfMemory>
+// The attributes of these views.
+fn attributes_in(alloc: Global, gone: &[u32]) -> Result<Vec<u32>, OutOfMemory>
     requires { All (λ id. id < ID_LIMIT) gone.now }
     ensures { IfOk result (λ attrs. attrs.items ≡ attributes_in gone.now) }
 {
@@ -146,15 +148,23 @@ pub fn attributes_in(alloc: Global, gone: &[u32]) -> Result<Vec<u32>, OutOfMemor
     Ok(attrs)
 }
 
+/// The attributes that leave: those of the views. Each view's number is below the limit.
+pub fn leaving_attributes(alloc: Global, leaver: &Leaver) -> Result<Vec<u32>, OutOfMemory>
+    requires { HasSmallViews leaver.now }
+    ensures { IfOk result (λ attrs. attrs.items ≡ leaving_attributes leaver.now) }
+{
+    match leaver {
+        Leaver::Views(gone) => attributes_in(alloc, gone),
+        Leaver::Group(_) | Leaver::Suggestion(..) | Leaver::Intrinsic(_) => Ok(Vec::new(alloc)),
+    }
+}
+
 /// Takes out what leaves. The items of before are the newest earlier version. After want of memory all is as
 /// before.
-pub fn take_leaving_out(
-    items: &mut VersionList<Item>,
-    leaver: Leaver<'_>,
-) -> Result<(), OutOfMemory>
+pub fn take_leaving_out(items: &mut VersionList<Item>, leaver: &Leaver) -> Result<(), OutOfMemory>
     requires { length items.old.before ≤ EARLIER }
     ensures items { OnOk result
-        (items_of items.new.items ≡ staying (is_leaving leaver.entry) (items_of items.old.items)) }
+        (items_of items.new.items ≡ staying (is_leaving leaver.now) (items_of items.old.items)) }
     ensures before { OnOk result (items.new.before ≡ items.old.items ∷ items.old.before) }
     ensures same { OnErr result (items.new ≡ items.old) }
 {

@@ -1,7 +1,6 @@
 // The rows that another value of a metric moves.
 ghost use Rattle.std.specs.Prelude.{◌≡◌, ◌≢◌, ◌<◌, true, false, length, All, AllPairs, Any};
 ghost use Rattle.std.specs.Prelude.{IfOk, IfErr, IfSome, IfNone};
-ghost use Rattle.std.specs.List.{HoldsAt};
 ghost use Rattle.constraint_compile.specs.Naming.{naming, AreConstantsOf};
 ghost use Rattle.constraint_compile.specs.Stops.{IsConstantStop};
 ghost use Rattle.layout_solver.specs.Shifts.{AreKept};
@@ -15,7 +14,7 @@ use constraint_compile::RowConstant;
 use frac_core::{OutOfMemory, Stop};
 use layout_solver::Change;
 use name_tables::Metrics;
-use problem_core::Row;
+use problem_core::{Row, row_place};
 use std::alloc::Global;
 
 // The constants, for these metrics, of the item's rows that name the metric.
@@ -57,16 +56,6 @@ pub fn constants_naming(
         }
     }
     Ok(constants)
-}
-
-// The place of the row of this number.
-fn row_place(rows: &[Row], id: u32) -> Option<usize>
-    requires { AllPairs (λ r s. r.id < s.id) rows.now }
-    ensures within { IfSome result (λ i. i < length rows.now) }
-    ensures found { IfSome result (HoldsAt (λ r. r.id ≡ id) rows.now) }
-    ensures absent { IfNone result (All (λ r. r.id ≢ id) rows.now) }
-{
-    rows.binary_search_by_key(&id, |row| row.id()).ok()
 }
 
 // Appends the change to this constant, unless its row has it. Says whether the constant is near.

@@ -5,7 +5,7 @@ ghost use Rattle.held_items.specs.declared.limits.TheConstants.{EARLIER};
 
 use crate::item::Item;
 use frac_core::OutOfMemory;
-use version_list::VersionList;
+use version_lists::VersionList;
 
 /// Puts an item behind the others; those of before are the newest earlier version. After want of memory all
 /// is as before.

@@ -10,15 +10,6 @@ use name_tables::OwnedName;
 use script_text::AttrWord;
 use std::alloc::Global;
 
-/// A suggestion that may be held.
-#[derive(Clone, Copy)]
-pub enum NewSuggestion {
-    /// The first of its attribute, which takes a row.
-    First(Suggestion),
-    /// One that is held, with another constant.
-    Again(Suggestion),
-}
-
 /// Whether the item is the suggestion of this attribute of the view.
 pub fn is_suggestion(item: &Item, view: u32, word: AttrWord) -> bool
     ensures { result ≡ is_suggestion view word (item_of item.now) }

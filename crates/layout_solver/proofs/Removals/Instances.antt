@@ -1,5 +1,5 @@
 -- Instances of what can leave, and of the stops of a removal: the row `x >= k` where x stands at k, and `x >= 0`.
-use Rattle.std.proofs.Common.{◌≡◌, ◌≢◌, ◌∙◌, ℕ, zero, suc, ◌++◌, false, true, List, [], ◌∷◌, length, get_or, pos, refl, sym, ap, subst, arith, inl, inr, All, AllPairs, Any, Contains}
+use Rattle.std.proofs.Common.{◌≡◌, ◌≢◌, ◌∙◌, ℕ, zero, suc, ◌++◌, false, true, List, [], ◌∷◌, length, get_or, take, pos, refl, sym, ap, subst, arith, inl, inr, All, AllPairs, Any, Contains}
 use Rattle.std.specs.Global.{Vec}
 use Rattle.std.proofs.lemmas.List.Elements.{All-from_recursion, recursion_from_All}
 use Rattle.std.proofs.lemmas.List.Kept.{AllPairs-cons}
@@ -8,7 +8,7 @@ use Rattle.problem_core.specs.declared.parts.Stay.{Stay}
 use Rattle.problem_core.specs.declared.parts.Term.{Term}
 use Rattle.problem_core.specs.declared.stops.What.TheVariants.{Attr}
 use Rattle.problem_core.specs.Layout.{HasStay, Problem, Row}
-use Rattle.problem_core.specs.Changes.Begins.{ComesFrom, is_one_of}
+use Rattle.problem_core.specs.Changes.Begins.{ComesFrom, IsFreeing}
 use Rattle.problem_core.specs.Corners.{Swap}
 use Rattle.problem_core.specs.Unfit.{IsUnfitWhat}
 use Rattle.cert_core.specs.Stops.{IsStopOf}
@@ -17,8 +17,8 @@ use Rattle.cert_core.specs.declared.stops.RunStop.TheVariants.{Unfit as UnfitRun
 use Rattle.corner_laws.specs.Examples.{at_least, over_row, over_second, over_stay, single, under_row}
 use Rattle.corner_laws.proofs.Instances.StopExamples.{spent_stops}
 use Rattle.marker_remove.specs.Instances.{standing, x_over}
-use Rattle.marker_remove.proofs.Instances.{row_exchange, row_path, row_same, x_fits, x_unfit}
-use Rattle.layout_solver.specs.declared.removing.RemoveStop.TheVariants.{Unfit, Spent}
+use Rattle.marker_remove.proofs.Instances.{no_mark, row_exchange, row_path, row_same, x_fits, x_unfit}
+use Rattle.layout_solver.specs.declared.request.RequestStop.TheVariants.{Unfit, Spent}
 use Rattle.layout_solver.specs.Removals.{CanLeave, FromRemoved, IsHeldPath, IsRemoveStop, without_rows}
 use Rattle.layout_solver.specs.Instances.{SomeCannotLeave, SomeRemovalsStop, below_bound, both_over, leaving, second, with_second}
 use Rattle.corner_laws.proofs.Instances.BeginExamples.{one-same}
@@ -96,8 +96,8 @@ some_cannot_leave = record {
 
 -- ---- stops
 
-no-frees : (leaving : List ℕ) → All (λ (s : Swap). is_one_of leaving s.enter.row ≡ true) []
-no-frees leaving = All-from_recursion (λ (s : Swap). is_one_of leaving s.enter.row ≡ true) [] tt
+no-frees : (kept : List Mark) (leaving : List ℕ) → All (IsFreeing kept leaving) []
+no-frees kept leaving = All-from_recursion (IsFreeing kept leaving) [] tt
 
 no-swaps : AllPairs (λ (s t : Swap). s.enter.row ≢ t.enter.row) []
 no-swaps i j d less within = absurd (omega (arith, within))
@@ -106,7 +106,7 @@ no-swaps i j d less within = absurd (omega (arith, within))
 comes : (p : Problem) (leaving : List ℕ) → ComesFrom p both_over leaving (2 ∷ []) (over_row ∷ [])
 comes p leaving = record {
   frees = [];
-  rows = no-frees leaving;
+  each = no-frees both_over leaving;
   apart = no-swaps;
   exchanges = tt;
   same = tt;
@@ -116,7 +116,7 @@ comes p leaving = record {
 comes-below : (p : Problem) (leaving : List ℕ) → ComesFrom p (under_row ∷ over_second ∷ []) leaving (2 ∷ []) (under_row ∷ [])
 comes-below p leaving = record {
   frees = [];
-  rows = no-frees leaving;
+  each = no-frees (under_row ∷ over_second ∷ []) leaving;
   apart = no-swaps;
   exchanges = tt;
   same = tt;
@@ -134,7 +134,8 @@ held = record {
 comes-freed : ComesFrom (standing 4398046511104) (over_stay ∷ []) (1 ∷ []) [] (over_row ∷ [])
 comes-freed = record {
   frees = record { enter = over_row; leave = over_stay } ∷ [];
-  rows = All-from_recursion (λ (s : Swap). is_one_of (1 ∷ []) s.enter.row ≡ true) (record { enter = over_row; leave = over_stay } ∷ []) (refl, tt);
+  each = All-from_recursion (IsFreeing (over_stay ∷ []) (1 ∷ [])) (record { enter = over_row; leave = over_stay } ∷ [])
+      (record { row = refl; over = refl; fresh = no_mark; stay = (1, refl) }, tt);
   apart = λ i j d less within. absurd (omega (arith, less, within));
   exchanges = (row_exchange, tt);
   same = (row_same, tt);
@@ -161,7 +162,7 @@ no-rows [] stays = refl
 no-rows (id ∷ ids) stays = no-rows ids stays
 
 stop-not : (gone still : List ℕ) → gone ++ still ≡ 2 ∷ 1 ∷ []
-    → IsStopOf false (without_rows gone (with_second (standing 5))) (without_rows gone (with_second (standing 5))).rows (FromRemoved (with_second (standing 5)) both_over (2 ∷ 1 ∷ []) gone (without_rows gone (with_second (standing 5)))) 0 (UnfitRun x_over) → ⊥
+    → IsStopOf false (without_rows gone (with_second (standing 5))) (without_rows gone (with_second (standing 5))).rows (FromRemoved (with_second (standing 5)) both_over (gone ++ take 1 still) gone (without_rows gone (with_second (standing 5)))) 0 (UnfitRun x_over) → ⊥
 stop-not [] still e (kind, few, (begins, path, bad)) =
     let count : 1 ≡ 2 = path.corner.count in absurd (omega (arith, count))
 stop-not (a ∷ []) still e (kind, few, (begins, path, bad)) =
@@ -180,7 +181,7 @@ fits : (still : List ℕ) → IsHeldPath (with_second (standing 5)) both_over (2
 fits still h = stop-not h.gone still h.in_order h.stop
 
 freed-not : (gone still : List ℕ) → gone ++ still ≡ 1 ∷ []
-    → IsStopOf false (without_rows gone (standing 5)) (without_rows gone (standing 5)).rows (FromRemoved (standing 5) (over_stay ∷ []) (1 ∷ []) gone (without_rows gone (standing 5))) 0 (UnfitRun x_over) → ⊥
+    → IsStopOf false (without_rows gone (standing 5)) (without_rows gone (standing 5)).rows (FromRemoved (standing 5) (over_stay ∷ []) (gone ++ take 1 still) gone (without_rows gone (standing 5))) 0 (UnfitRun x_over) → ⊥
 freed-not [] still e (kind, few, (begins, path, bad)) = x_fits bad
 freed-not (a ∷ more) still e (kind, few, (begins, path, bad)) =
     let first : a ≡ 1 = ap (λ (ids : List ℕ). get_or ids 0 0) e in

@@ -33,8 +33,8 @@ use Rattle.corner_lines.proofs.ProblemChanges.Dropped.{other_row}
 use Rattle.corner_lines.proofs.ProblemChanges.DroppedAttr.{attr_left_corner, filter-off, filter-on, other_stay, stay-out}
 use Rattle.corner_lines.proofs.ProblemChanges.LeftUnfits.{left_is_unfit}
 use Rattle.corner_lines.proofs.ProblemChanges.LeftWholes.{attr_left_whole, others-held, rows_left_whole}
-use Rattle.layout_solver.specs.declared.removing.RemoveStop.{RemoveStop}
-use Rattle.layout_solver.specs.declared.removing.RemoveStop.TheVariants.{Unfit, Spent, OutOfMemory}
+use Rattle.layout_solver.specs.declared.request.RequestStop.{RequestStop}
+use Rattle.layout_solver.specs.declared.request.RequestStop.TheVariants.{Conflict, Unfit, Spent, OutOfMemory}
 use Rattle.layout_solver.specs.Removals.{CanLeave, FromRemoved, IsHeldPath, IsLeftStop, IsRemoveStop, IsStillStop, Leaving, without, without_attrs, without_rows}
 use Rattle.layout_solver.proofs.Removals.LeftEnds.{attrs_up}
 use Rattle.layout_solver.proofs.Removals.LeftRows.{left_free, stays_same}
@@ -130,6 +130,10 @@ rows-whole : (ids : List ℕ) (p : Problem) → IsWhole p → IsWhole (without_r
 rows-whole [] p whole = whole
 rows-whole (id ∷ ids) p whole = rows-whole ids (without_row id p) (rows_left_whole (other_row id) p whole)
 
+attrs-whole : (attrs : List ℕ) (q : Problem) → AreFree attrs q → IsWhole q → IsWhole (without_attrs attrs q)
+attrs-whole [] q free whole = whole
+attrs-whole (a ∷ attrs) q free whole = attrs-whole attrs (without_attr a q) free.1 (attr_left_whole q a whole free.0)
+
 no-exchange : (swaps : List Swap) → length swaps ≤ 0 → swaps ≡ []
 no-exchange [] h = refl
 no-exchange (s ∷ swaps) h = absurd (omega (arith, h))
@@ -141,6 +145,9 @@ module _ (p : Problem) (kept : List Mark) (l : Leaving) (whole : IsWhole p) (can
       are-free l.attrs (without_rows l.rows p) can.attrs_apart (subst (λ (ss : List Stay). Each (HasStay ss) l.attrs) (sym (stays_same l.rows p)) (recursion_from_All (HasStay p.stays) l.attrs can.stays))
       (each-impl (λ r. All (λ t. Contains l.attrs t.attr → ⊥) r.terms) (λ r. Each (λ (t : Term). Contains l.attrs t.attr → ⊥) r.terms) (without_rows l.rows p).rows (λ r h. recursion_from_All (λ t. Contains l.attrs t.attr → ⊥) r.terms h)
       (recursion_from_All (λ r. All (λ t. Contains l.attrs t.attr → ⊥) r.terms) (without_rows l.rows p).rows (left_free l p can)))
+
+  pub left_whole : IsWhole (without l p)
+  left_whole = attrs-whole l.attrs (without_rows l.rows p) free (rows-whole l.rows p whole)
 
   path-left : (path : Path) (quantity : Quantity) → path.swaps ≡ [] → IsUnfitPath false (without_rows l.rows p) (without_rows l.rows p).rows (FromRemoved p kept l.rows l.rows (without_rows l.rows p)) path quantity → IsUnfitPath false (without l p) (without l p).rows (FromRemoved p kept l.rows l.rows (without l p)) path quantity
   path-left path (Plain what) none (begins, lawful, unfit) =
@@ -160,14 +167,16 @@ module _ (p : Problem) (kept : List Mark) (l : Leaving) (whole : IsWhole p) (can
   held_left budget at h =
       let all : h.gone ≡ l.rows = sym (append-nil h.gone) ∙ h.in_order in
       let stop : IsStopOf false (without_rows l.rows p) (without_rows l.rows p).rows (FromRemoved p kept l.rows l.rows (without_rows l.rows p)) 0 (UnfitRun at) =
-      subst (λ (gone : List ℕ). IsStopOf false (without_rows gone p) (without_rows gone p).rows (FromRemoved p kept l.rows gone (without_rows gone p)) 0 (UnfitRun at)) all h.stop in (
+      subst (λ (ids : List ℕ). IsStopOf false (without_rows l.rows p) (without_rows l.rows p).rows (FromRemoved p kept ids l.rows (without_rows l.rows p)) 0 (UnfitRun at)) (append-nil l.rows)
+      (subst (λ (gone : List ℕ). IsStopOf false (without_rows gone p) (without_rows gone p).rows (FromRemoved p kept (gone ++ []) gone (without_rows gone p)) 0 (UnfitRun at)) all h.stop) in (
         stop.0,
         (let few = stop.1 in omega (arith, few)),
         path-left at.path at.quantity (no-exchange at.path.swaps stop.1) stop.2,
       )
 
 -- a stop on the way, with the rows that it tells as still held, or with none
-pub still_stop : (p : Problem) (kept : List Mark) (l : Leaving) (budget : ℕ) (stop : RemoveStop) → IsWhole p → CanLeave l p → IsStillStop p kept l.rows stop → IsRemoveStop p kept l budget stop
+pub still_stop : (p : Problem) (kept : List Mark) (l : Leaving) (budget : ℕ) (stop : RequestStop) → IsWhole p → CanLeave l p → IsStillStop p kept l.rows stop → IsRemoveStop p kept l budget stop
+still_stop p kept l budget (Conflict by) whole can h = absurd h
 still_stop p kept l budget (Unfit still at) whole can h = told still.items refl
   where
     told : (items : List ℕ) → still.items ≡ items → ((still.items ≢ []) × IsHeldPath p kept l.rows still.items at) ⊎ ((still.items ≡ []) × IsLeftStop p kept l budget (UnfitRun at))

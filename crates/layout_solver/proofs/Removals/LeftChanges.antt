@@ -12,13 +12,13 @@ use Rattle.corner.specs.Views.{CornerView, HasValueAt, IsKeptCorner, Scene}
 use Rattle.corner.specs.Changes.{HasStood, scene_of}
 use Rattle.corner_ends.specs.Runs.{IsBestEnd}
 use Rattle.marker_remove.specs.Freed.{DoStand}
-use Rattle.layout_solver.specs.declared.removing.RemoveStop.{RemoveStop}
+use Rattle.layout_solver.specs.declared.request.RequestStop.{RequestStop}
 use Rattle.layout_solver.specs.Layouts.{Layout}
-use Rattle.layout_solver.specs.Engines.{AreItsValues, HaveValues, IsSolved}
+use Rattle.layout_solver.specs.Engines.{AreItsValues, HaveValues, IsMarked, IsSolved}
 use Rattle.layout_solver.specs.Removals.{CanLeave, HasRemoved, IsRemoveStop, Leaving, stood, with_removed, without}
 use Rattle.layout_solver.specs.Starts.{IsMoved}
 use Rattle.layout_solver.proofs.Shifts.Alterations.{stood_problem}
-use Rattle.layout_solver.proofs.Changes.{IsMarked, changed_kept, still_moved, there_marks}
+use Rattle.layout_solver.proofs.Changes.{changed_kept, still_moved, there_marks}
 use Rattle.layout_solver.proofs.Starts.Moved.{IsAtTarget, moved_stands}
 use Rattle.layout_solver.proofs.Starts.MovedProblems.{its_values, moved_up, one_problem}
 use Rattle.layout_solver.proofs.Solved.{solved_end, these_values}
@@ -78,7 +78,7 @@ module _ (from mid : CornerView) (corner : IsCorner from.problem from.marks) (ha
       subst (λ (ms : List Mark). HasRemoved p ms l budget last) marks
       (subst (λ (q : Problem). HasRemoved q mid.marks l budget last) (one-stood p m) h)
 
-  pub stood_stop : (l : Leaving) (budget : ℕ) (stop : RemoveStop) (p : Problem) → IsRemoveStop mid.problem mid.marks l budget stop → IsMoved from [] from.problem.rows p → IsRemoveStop p from.marks l budget stop
+  pub stood_stop : (l : Leaving) (budget : ℕ) (stop : RequestStop) (p : Problem) → IsRemoveStop mid.problem mid.marks l budget stop → IsMoved from [] from.problem.rows p → IsRemoveStop p from.marks l budget stop
   stood_stop l budget stop p h m =
       subst (λ (ms : List Mark). IsRemoveStop p ms l budget stop) marks
       (subst (λ (q : Problem). IsRemoveStop q mid.marks l budget stop) (one-stood p m) h)
@@ -104,7 +104,7 @@ module _ (c mid : CornerView) (v : List (ℕ × Fraction)) (past : HaveValues c.
   removed_path budget last run =
       subst (λ (ms : List Mark). HasRemoved (stood l) ms what budget last) (there_marks c mid v past l m) (run (stood l) (still_moved c mid v past l m))
 
-  pub removed_stop : (budget : ℕ) (stop : RemoveStop) → ((p : Problem) → IsMoved mid [] mid.problem.rows p → IsRemoveStop p mid.marks what budget stop) → IsRemoveStop (stood l) l.corner what budget stop
+  pub removed_stop : (budget : ℕ) (stop : RequestStop) → ((p : Problem) → IsMoved mid [] mid.problem.rows p → IsRemoveStop p mid.marks what budget stop) → IsRemoveStop (stood l) l.corner what budget stop
   removed_stop budget stop h = subst (λ (ms : List Mark). IsRemoveStop (stood l) ms what budget stop) (there_marks c mid v past l m) (h (stood l) (still_moved c mid v past l m))
 
   pub removed_solved : (end : CornerView) → end.before ≡ mid.before → (w : List (ℕ × Fraction)) (rest : HaveValues end.before) → ((p : Problem) → IsMoved mid [] mid.problem.rows p → end.problem ≡ without what p) → IsBestEnd end.problem end.marks → end.candidates ≡ []

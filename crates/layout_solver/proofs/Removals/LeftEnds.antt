@@ -1,5 +1,5 @@
 -- The way of a removal: its steps, its stops, its end.
-use Rattle.std.proofs.Common.{◌≡◌, ◌≢◌, ◌∙◌, ℕ, ◌+◌, ◌<◌, ◌++◌, Bool, true, false, cond, nat_eq, List, [], ◌∷◌, filter, map, take, drop, length, get_or, pos, refl, sym, ap, ap₂, subst, arith, All, AllPairs, Any, Contains, IfSome, IfNone, inl, inr}
+use Rattle.std.proofs.Common.{◌≡◌, ◌≢◌, ◌∙◌, ℕ, zero, suc, ◌+◌, ◌<◌, ◌++◌, Bool, true, false, cond, nat_eq, List, [], ◌∷◌, filter, map, take, drop, length, get_or, pos, refl, sym, ap, ap₂, subst, arith, All, AllPairs, Any, Contains, IfSome, IfNone, inl, inr}
 use Rattle.std.specs.declared.option.Option.{Option}
 use Rattle.std.specs.Prelude.{Some, None}
 use Rattle.std.specs.List.{AllByRecursion as Each}
@@ -15,10 +15,10 @@ use Rattle.problem_core.specs.declared.stops.What.{What}
 use Rattle.problem_core.specs.declared.stops.Quantity.{Quantity}
 use Rattle.problem_core.specs.declared.stops.Quantity.TheVariants.{Plain, Terms, Rows, Shifts}
 use Rattle.frac_core.specs.declared.memory.Stop.TheVariants.{Refused}
-use Rattle.problem_core.specs.Changes.Begins.{ChangesNoValue, ComesFrom, without_marks}
+use Rattle.problem_core.specs.Changes.Begins.{ComesFrom, without_marks}
 use Rattle.problem_core.specs.Layout.{Assignment, Line, Problem, Row, Satisfies, line_of_row, line_of_stay, lines, stay_lines, value_at}
 use Rattle.problem_core.specs.Kept.{IsWhole}
-use Rattle.problem_core.specs.Corners.{IsCorner, IsExchange, IsIn, NoNegativeValue, Swap, equation, marks_of, place, place_of}
+use Rattle.problem_core.specs.Corners.{IsCorner, IsIn, NoNegativeValue, Swap, equation, marks_of, place, place_of}
 use Rattle.problem_core.specs.Changes.Paths.{IsPath}
 use Rattle.problem_core.proofs.Refutations.{refutation-IsInConflict}
 use Rattle.problem_core.proofs.Wholes.{whole-IsProblem}
@@ -37,8 +37,8 @@ use Rattle.corner_laws.proofs.Swaps.ColumnsStay.{each_marks}
 use Rattle.corner_laws.proofs.WrittenValues.{nothing_outside}
 use Rattle.corner_laws.proofs.ZeroColumns.{here-in}
 use Rattle.marker_remove.specs.Freed.{DoStand, HasMarkIn, HasSameValues, IsFreeStop, IsFreed}
-use Rattle.layout_solver.specs.declared.removing.RemoveStop.{RemoveStop}
-use Rattle.layout_solver.specs.declared.removing.RemoveStop.TheVariants.{Unfit, Spent, OutOfMemory}
+use Rattle.layout_solver.specs.declared.request.RequestStop.{RequestStop}
+use Rattle.layout_solver.specs.declared.request.RequestStop.TheVariants.{Conflict, Unfit, Spent, OutOfMemory}
 use Rattle.layout_solver.specs.Removals.{FromRemoved, HasRemoved, HaveGone, IsEndStop, IsHeldPath, IsRemoveStop, IsStillStop, IsUnfitOf, Leaving, without, without_attrs, without_rows}
 use Rattle.layout_solver.proofs.Starts.Beginnings.{unfit-added}
 use Rattle.layout_solver.proofs.Removals.LeftMarks.{row_there, standing_left, values_left}
@@ -58,13 +58,13 @@ is-path path at a b e = ap₂ (λ (d : Bool) (s : List Swap). record { dual = d;
 held-stop : (p q : Problem) (kept at : List Mark) (leaving gone : List ℕ) (what : What) → ComesFrom p kept leaving gone at → at ≡ in_order q at → IsPath false q at [] → IsUnfitStop q at (Refused (Plain what)) → IsStopOf false q q.rows (FromRemoved p kept leaving gone q) 0 (UnfitRun (record { path = record { dual = false; corner = at; swaps = [] }; quantity = Plain what }))
 held-stop p q kept at leaving gone what comes ordered lawful unfit = (refl, omega arith, ((refl, comes, ordered), lawful, unfit))
 
-pub held_path : (p q : Problem) (kept at : List Mark) (leaving gone still : List ℕ) (path : Path) (quantity : Quantity) → gone ++ still ≡ leaving → q ≡ without_rows gone p → path ≡ record { dual = false; corner = at; swaps = [] } → ComesFrom p kept leaving gone at → at ≡ in_order q at → IsPath false q at [] → IsUnfitStop q at (Refused quantity) → IsHeldPath p kept leaving still (record { path = path; quantity = quantity })
+pub held_path : (p q : Problem) (kept at : List Mark) (leaving gone still : List ℕ) (path : Path) (quantity : Quantity) → gone ++ still ≡ leaving → q ≡ without_rows gone p → path ≡ record { dual = false; corner = at; swaps = [] } → ComesFrom p kept (gone ++ take 1 still) gone at → at ≡ in_order q at → IsPath false q at [] → IsUnfitStop q at (Refused quantity) → IsHeldPath p kept leaving still (record { path = path; quantity = quantity })
 held_path p q kept at leaving gone still path (Plain what) all is e comes ordered lawful unfit = record {
   gone = gone;
   in_order = all;
-  stop = subst (λ (r : Problem). IsStopOf false r r.rows (FromRemoved p kept leaving gone r) 0 (UnfitRun (record { path = path; quantity = Plain what }))) is
-      (subst (λ (h : Path). IsStopOf false q q.rows (FromRemoved p kept leaving gone q) 0 (UnfitRun (record { path = h; quantity = Plain what }))) (sym e)
-      (held-stop p q kept at leaving gone what comes ordered lawful unfit));
+  stop = subst (λ (r : Problem). IsStopOf false r r.rows (FromRemoved p kept (gone ++ take 1 still) gone r) 0 (UnfitRun (record { path = path; quantity = Plain what }))) is
+      (subst (λ (h : Path). IsStopOf false q q.rows (FromRemoved p kept (gone ++ take 1 still) gone q) 0 (UnfitRun (record { path = h; quantity = Plain what }))) (sym e)
+      (held-stop p q kept at (gone ++ take 1 still) gone what comes ordered lawful unfit));
 }
 held_path p q kept at leaving gone still path (Terms mark j) all is e comes ordered lawful unfit = absurd unfit
 held_path p q kept at leaving gone still path (Rows level j) all is e comes ordered lawful unfit = absurd unfit
@@ -72,44 +72,48 @@ held_path p q kept at leaving gone still path (Shifts what j) all is e comes ord
 
 -- ---- the next row
 
+-- the first of those that are left
+first_left : (rows : List ℕ) (i : ℕ) → i < length rows → take 1 (drop i rows) ≡ get_or rows i 0 ∷ []
+first_left [] i within = absurd (omega (arith, within))
+first_left (r ∷ rows) zero within = refl
+first_left (r ∷ rows) (suc i) within = first_left rows i (omega (arith, within))
+
 module _ (p : Problem) (kept : List Mark) (rows : List ℕ) (i : ℕ) (within : i < length rows) where
   -- a mark of it is in
   pub row_freed : (old new : CornerView) (freed : Option Swap) → IsCorner old.problem old.marks → IsKeptCorner p kept → AllPairs (λ a b. a ≢ b) rows
-      → IfSome freed (IsFreed old.problem old.marks (get_or rows i 0) new.marks) → IfNone freed (new ≡ old) → new.problem ≡ old.problem → HasSameValues old.problem old.marks new.marks → NoNegativeValue new.problem new.marks
+      → IfSome freed (IsFreed old.problem old.marks (get_or rows i 0) new.marks) → IfSome freed (λ _. HasMarkIn old.marks (get_or rows i 0) → ⊥) → IfNone freed (new ≡ old) → new.problem ≡ old.problem → HasSameValues old.problem old.marks new.marks → NoNegativeValue new.problem new.marks
       → HaveGone p kept (take i rows) (take i rows) old → HaveGone p kept (take (i + 1) rows) (take i rows) new
-  row_freed old new freed here k apart some none problem same up h = record {
+  row_freed old new freed here k apart some fresh none problem same up h = record {
     problem = problem ∙ h.problem;
-    comes = subst (λ (ids : List ℕ). ComesFrom p kept ids (take i rows) new.marks) (sym (take_more rows i 0 within)) (come freed some none);
+    comes = subst (λ (ids : List ℕ). ComesFrom p kept ids (take i rows) new.marks) (sym (take_more rows i 0 within)) (come freed some fresh none);
     values = up;
     standing = subst (λ (q : Problem). DoStand q new.marks) (sym problem) (λ j d less. same _ _ (h.standing j d less));
   }
     where
-      come : (o : Option Swap) → IfSome o (IsFreed old.problem old.marks (get_or rows i 0) new.marks) → IfNone o (new ≡ old) → ComesFrom p kept (take i rows ++ get_or rows i 0 ∷ []) (take i rows) new.marks
-      come (Some s) f n =
-          comes_freed p kept old.marks new.marks (take i rows) (take i rows) (get_or rows i 0) s k.corner k.rays (not_before rows i apart within) (not_before rows i apart within) f.row
-          (subst (λ (q : Problem). IsCorner q old.marks) h.problem here) (subst (λ (q : Problem). IsExchange q old.marks s) h.problem f.exchange)
-          (subst (λ (q : Problem). ChangesNoValue q old.marks s) h.problem f.same) f.marks h.comes
-      come None f n = subst (λ (c : CornerView). ComesFrom p kept (take i rows ++ get_or rows i 0 ∷ []) (take i rows) c.marks) (sym n) (comes_more p kept old.marks (take i rows) (get_or rows i 0 ∷ []) (take i rows) h.comes)
+      come : (o : Option Swap) → IfSome o (IsFreed old.problem old.marks (get_or rows i 0) new.marks) → IfSome o (λ _. HasMarkIn old.marks (get_or rows i 0) → ⊥) → IfNone o (new ≡ old) → ComesFrom p kept (take i rows ++ get_or rows i 0 ∷ []) (take i rows) new.marks
+      come (Some s) f out n =
+          comes_freed p kept old.marks new.marks (take i rows) (take i rows) (get_or rows i 0) s k.corner k.rays (not_before rows i apart within) (not_before rows i apart within)
+          (subst (λ (q : Problem). IsCorner q old.marks) h.problem here) out
+          (subst (λ (q : Problem). IsFreed q old.marks (get_or rows i 0) new.marks s) h.problem f) h.comes
+      come None f out n = subst (λ (c : CornerView). ComesFrom p kept (take i rows ++ get_or rows i 0 ∷ []) (take i rows) c.marks) (sym n) (comes_more p kept old.marks (take i rows) (get_or rows i 0 ∷ []) (take i rows) h.comes)
 
   -- or something does not fit there
-  pub unfit_freed : (c : CornerView) (at : UnfitPath) (stop : RemoveStop) → IsCorner c.problem c.marks → IsKeptCorner p kept → AllPairs (λ a b. a ≢ b) rows → IsFreeStop c.problem c.marks (get_or rows i 0) (UnfitRun at)
+  pub unfit_freed : (c : CornerView) (at : UnfitPath) (stop : RequestStop) → IsCorner c.problem c.marks → IsKeptCorner p kept → AllPairs (λ a b. a ≢ b) rows → IsFreeStop c.problem c.marks (get_or rows i 0) (UnfitRun at)
       → HaveGone p kept (take i rows) (take i rows) c → IsUnfitOf (drop i rows) at stop → IsStillStop p kept rows stop
+  unfit_freed c at (Conflict by) here k apart f h of = absurd of
   unfit_freed c at (Spent path) here k apart f h of = absurd of
   unfit_freed c at OutOfMemory here k apart f h of = tt
   unfit_freed c at (Unfit still other) here k apart f h of =
-      let s : Swap = f.0.freed.0 in
-      let is = f.0.freed.1 in
       let comes : ComesFrom p kept (take i rows ++ get_or rows i 0 ∷ []) (take i rows) at.path.corner =
-      comes_freed p kept c.marks at.path.corner (take i rows) (take i rows) (get_or rows i 0) f.0.freed.0 k.corner k.rays (not_before rows i apart within) (not_before rows i apart within) is.row
-      (subst (λ (q : Problem). IsCorner q c.marks) h.problem here) (subst (λ (q : Problem). IsExchange q c.marks f.0.freed.0) h.problem is.exchange)
-      (subst (λ (q : Problem). ChangesNoValue q c.marks f.0.freed.0) h.problem is.same) is.marks h.comes in
-      let all : ComesFrom p kept rows (take i rows) at.path.corner =
-      subst (λ (ids : List ℕ). ComesFrom p kept ids (take i rows) at.path.corner) (ap (λ (ids : List ℕ). ids ++ drop (i + 1) rows) (sym (take_more rows i 0 within)) ∙ all_of rows (i + 1))
-      (comes_more p kept at.path.corner (take i rows ++ get_or rows i 0 ∷ []) (drop (i + 1) rows) (take i rows) comes) in
+      comes_freed p kept c.marks at.path.corner (take i rows) (take i rows) (get_or rows i 0) f.0.freed.0 k.corner k.rays (not_before rows i apart within) (not_before rows i apart within)
+      (subst (λ (q : Problem). IsCorner q c.marks) h.problem here) f.0.fresh
+      (subst (λ (q : Problem). IsFreed q c.marks (get_or rows i 0) at.path.corner f.0.freed.0) h.problem f.0.freed.1) h.comes in
+      let next : ComesFrom p kept (take i rows ++ take 1 (drop i rows)) (take i rows) at.path.corner =
+      subst (λ (ids : List ℕ). ComesFrom p kept (take i rows ++ ids) (take i rows) at.path.corner) (sym (first_left rows i within)) comes in
       subst (IsHeldPath p kept rows still.items) (sym of.1)
       (subst (λ (ids : List ℕ). IsHeldPath p kept rows ids at) (sym of.0)
       (held_path p c.problem kept at.path.corner rows (take i rows) (drop i rows) at.path at.quantity (all_of rows i) h.problem
-      (is-path at.path at.path.corner f.0.kind f.0.none refl) all f.0.ordered f.0.lawful
+      (is-path at.path at.path.corner f.0.kind f.0.none refl) next f.0.ordered f.0.lawful
       (subst (λ (q : Quantity). IsUnfitStop c.problem at.path.corner (Refused q)) (sym f.1.1) f.1.2)))
 
   -- it has gone
@@ -128,9 +132,10 @@ module _ (p : Problem) (kept : List Mark) (rows : List ℕ) (i : ℕ) (within : 
   side-in at (inr o) = (Over, o)
 
   -- or something does not fit where it has gone
-  pub unfit_dropped : (c : CornerView) (path : Path) (quantity : Quantity) (stop : RemoveStop) → IsKeptCorner c.problem c.marks → HasMarkIn c.marks (get_or rows i 0) → path ≡ record { dual = false; corner = without_marks (get_or rows i 0 ∷ []) c.marks; swaps = [] }
+  pub unfit_dropped : (c : CornerView) (path : Path) (quantity : Quantity) (stop : RequestStop) → IsKeptCorner c.problem c.marks → HasMarkIn c.marks (get_or rows i 0) → path ≡ record { dual = false; corner = without_marks (get_or rows i 0 ∷ []) c.marks; swaps = [] }
       → IsUnfitStop (without_row (get_or rows i 0) c.problem) (without_marks (get_or rows i 0 ∷ []) c.marks) (Refused quantity)
       → HaveGone p kept (take (i + 1) rows) (take i rows) c → IsUnfitOf (drop (i + 1) rows) (record { path = path; quantity = quantity }) stop → IsStillStop p kept rows stop
+  unfit_dropped c path quantity (Conflict by) k inside e unfit h of = absurd of
   unfit_dropped c path quantity (Spent other) k inside e unfit h of = absurd of
   unfit_dropped c path quantity OutOfMemory k inside e unfit h of = tt
   unfit_dropped c path quantity (Unfit still other) k inside e unfit h of =
@@ -138,14 +143,13 @@ module _ (p : Problem) (kept : List Mark) (rows : List ℕ) (i : ℕ) (within : 
       let at : List Mark = without_marks (get_or rows i 0 ∷ []) c.marks in
       let comes : ComesFrom p kept (take (i + 1) rows) (take (i + 1) rows) (without_marks (get_or rows i 0 ∷ []) c.marks) =
       subst (λ (ids : List ℕ). ComesFrom p kept (take (i + 1) rows) ids (without_marks (get_or rows i 0 ∷ []) c.marks)) (sym (take_more rows i 0 within)) (comes_dropped p kept c.marks (take (i + 1) rows) (take i rows) (get_or rows i 0) h.comes) in
-      let all : ComesFrom p kept rows (take (i + 1) rows) (without_marks (get_or rows i 0 ∷ []) c.marks) =
-      subst (λ (ids : List ℕ). ComesFrom p kept ids (take (i + 1) rows) (without_marks (get_or rows i 0 ∷ []) c.marks)) (all_of rows (i + 1))
-      (comes_more p kept (without_marks (get_or rows i 0 ∷ []) c.marks) (take (i + 1) rows) (drop (i + 1) rows) (take (i + 1) rows) comes) in
+      let next : ComesFrom p kept (take (i + 1) rows ++ take 1 (drop (i + 1) rows)) (take (i + 1) rows) (without_marks (get_or rows i 0 ∷ []) c.marks) =
+      comes_more p kept (without_marks (get_or rows i 0 ∷ []) c.marks) (take (i + 1) rows) (take 1 (drop (i + 1) rows)) (take (i + 1) rows) comes in
       subst (IsHeldPath p kept rows still.items) (sym of.1)
       (subst (λ (ids : List ℕ). IsHeldPath p kept rows ids (record { path = path; quantity = quantity })) (sym of.0)
       (held_path p (without_row (get_or rows i 0) c.problem) kept (without_marks (get_or rows i 0 ∷ []) c.marks) rows (take (i + 1) rows) (drop (i + 1) rows) path quantity (all_of rows (i + 1))
       (ap (without_row (get_or rows i 0)) h.problem ∙ sym (rows_last (take i rows) (get_or rows i 0) p) ∙ ap (λ (ids : List ℕ). without_rows ids p) (sym (take_more rows i 0 within)))
-      e all (order_left c.problem c.marks (get_or rows i 0) k.ordered)
+      e next (order_left c.problem c.marks (get_or rows i 0) k.ordered)
       (path_here (without_row (get_or rows i 0) c.problem) (without_marks (get_or rows i 0 ∷ []) c.marks) (left_corner c.problem c.marks (get_or rows i 0) side.0 k.whole k.corner side.1) (values_left c.problem c.marks (get_or rows i 0) h.values))
       unfit))
 
@@ -189,7 +193,8 @@ module _ (p : Problem) (kept at : List Mark) (l : Leaving) (q : Problem) (budget
     },
   )
 
-  pub end_stop : (stop : RemoveStop) → IsEndStop q at budget stop → IsRemoveStop p kept l budget stop
+  pub end_stop : (stop : RequestStop) → IsEndStop q at budget stop → IsRemoveStop p kept l budget stop
+  end_stop (Conflict by) h = absurd h
   end_stop (Unfit still path) h = inr (h.0, subst (λ (r : Problem). IsStopOf false r r.rows (FromRemoved p kept l.rows l.rows r) budget (UnfitRun path)) is (left-unfit path h.1))
   end_stop (Spent path) h = subst (λ (r : Problem). IsStopOf false r r.rows (FromRemoved p kept l.rows l.rows r) budget (SpentRun path)) is (left-spent path h)
   end_stop OutOfMemory h = tt
@@ -258,5 +263,5 @@ module _ (p : Problem) (kept : List Mark) (rows attrs : List ℕ) (old mid : Cor
   pub gone_path : (budget : ℕ) (last : List Mark) → (path : Path) × IsRun false mid.problem (λ at. at ≡ mid.marks) budget last path → HasRemoved p kept (record { rows = rows; attrs = attrs }) budget last
   gone_path budget last run = left_path p kept mid.marks last (record { rows = rows; attrs = attrs }) mid.problem budget all-gone from-gone run
 
-  pub gone_stop : (budget : ℕ) (stop : RemoveStop) → IsEndStop mid.problem mid.marks budget stop → IsRemoveStop p kept (record { rows = rows; attrs = attrs }) budget stop
+  pub gone_stop : (budget : ℕ) (stop : RequestStop) → IsEndStop mid.problem mid.marks budget stop → IsRemoveStop p kept (record { rows = rows; attrs = attrs }) budget stop
   gone_stop budget stop h = end_stop p kept mid.marks (record { rows = rows; attrs = attrs }) mid.problem budget all-gone from-gone stop h

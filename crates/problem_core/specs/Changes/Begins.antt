@@ -5,8 +5,10 @@ use Rattle.std.specs.List.{AllZip}
 use Rattle.problem_core.specs.declared.parts.RowName.{RowName}
 use Rattle.problem_core.specs.declared.parts.RowName.TheVariants.{Held, Stay as StayOf}
 use Rattle.problem_core.specs.declared.parts.Mark.{Mark}
+use Rattle.problem_core.specs.declared.parts.Side.TheVariants.{Under, Over}
 use Rattle.problem_core.specs.Layout.{Row, Problem}
-use Rattle.problem_core.specs.Corners.{IsExchange, Point, SameMarks, StandsAt, Swap, exchanged, place}
+use Rattle.problem_core.specs.Corners.{IsExchange, IsIn, Point, SameMarks, StandsAt, Swap, exchanged}
+use Rattle.problem_core.specs.Corners.{place, place_of}
 use Rattle.problem_core.specs.Unfit.{over_mark, under_mark}
 use Rattle.problem_core.specs.Changes.Paths.{last_marks}
 
@@ -55,11 +57,22 @@ abbrev pub ChangeNoValue : Problem → List Mark → List Swap → Type 0
 ChangeNoValue p at [] = Unit {0}
 ChangeNoValue p at (s ∷ swaps) = ChangesNoValue p at s × ChangeNoValue p (exchanged s at) swaps
 
--- exchanges that change no value, at most one for each leaving row, bring a mark of it in; then the marks of
--- the rows that are gone are taken out
+-- a mark of the row or stay is inside
+abbrev pub HasMarkOf : List Mark → RowName → Type 0
+HasMarkOf at name = IsIn (place_of name Under) at ⊎ IsIn (place_of name Over) at
+
+-- the exchange brings in the over mark of one of these rows, which had no mark inside, for a stay's mark
+pub record IsFreeing (kept : List Mark) (leaving : List ℕ) (s : Swap) : Type 0 where
+  pub row : is_one_of leaving s.enter.row ≡ true
+  pub over : s.enter.side ≡ Over
+  pub fresh : HasMarkOf kept s.enter.row → ⊥
+  pub stay : (attr : ℕ) × (s.leave.row ≡ StayOf attr)
+
+-- exchanges that change no value, at most one for each leaving row without a mark inside, bring a mark of it
+-- in for a stay's; then the marks of the rows that are gone are taken out
 pub record ComesFrom (p : Problem) (kept : List Mark) (leaving gone : List ℕ) (at : List Mark) : Type 0 where
   pub frees : List Swap
-  pub rows : All (λ s. is_one_of leaving s.enter.row ≡ true) frees
+  pub each : All (IsFreeing kept leaving) frees
   pub apart : AllPairs (λ s t. s.enter.row ≢ t.enter.row) frees
   pub exchanges : AreExchanges p kept frees
   pub same : ChangeNoValue p kept frees

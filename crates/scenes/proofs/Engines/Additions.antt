@@ -13,7 +13,11 @@ use Rattle.problem_core.specs.Window.{required_row, structural_rows, zero_fracti
 use Rattle.view_tree.specs.Views.{LiveView, ViewTree, first_tree}
 use Rattle.layout_solver.specs.declared.engine.Change.{Change}
 use Rattle.layout_solver.specs.Layouts.{Layout, stays_at, zeros, with_added}
+use Rattle.layout_solver.specs.Requests.{CanSolve, posed_by}
 use Rattle.layout_solver.specs.Shifts.{shifted, with_shifts}
+use Rattle.layout_solver.specs.declared.request.Request.{Request}
+use Rattle.layout_solver.specs.declared.request.Request.TheVariants as request
+use Rattle.scenes.specs.Stepping.{IsFirst}
 use Rattle.problem_core.specs.Unfit.{without_constant}
 use Rattle.held_items.specs.Attributes.{view_attributes, all_attributes, HasOnly, IsCounted}
 use Rattle.held_items.proofs.Lists.{four-rising, all-unmapped}
@@ -107,6 +111,23 @@ first-whole l more is are each =
     (subst (λ (rows : List Row). IsWhole (with_added empty (1 ∷ 2 ∷ 3 ∷ 4 ∷ []) rows)) (sym are)
     (added-whole empty.problem empty.values (view_attributes 0) structural_rows 1 1 empty-settled (λ k d within. absurd (omega (arith, within))) (view-new 0 (lit< tt)) (λ k d within. absurd (omega (arith, within)))
     (first-may (subst (All IsRow) are each)) (omega arith) (omega arith)))
+
+pub first-can : (l : Layout) (r : Request) → l ≡ empty → IsFirst r → CanSolve l r
+first-can l (request.Add attrs rows) is (are_attrs, are_rows, each) = subst (λ (ns : List ℕ). IsWhole (with_added l ns rows.items)) (sym are_attrs) (first-whole l rows.items is are_rows each)
+first-can l (request.Shift to) is first = absurd first
+first-can l (request.Remove rows attrs) is first = absurd first
+first-can l (request.Keep attrs) is first = absurd first
+first-can l request.Stand is first = absurd first
+
+pub first-posed : (l : Layout) (r : Request) → l ≡ empty → IsFirst r → posed_by l r ≡ first_problem
+first-posed l (request.Add attrs rows) is (are_attrs, are_rows, each) =
+    ap (λ (k : Layout). with_added k attrs.items rows.items) is
+    ∙ ap (λ (ns : List ℕ). with_added empty ns rows.items) are_attrs
+    ∙ ap (with_added empty (view_attributes 0)) are_rows
+first-posed l (request.Shift to) is first = absurd first
+first-posed l (request.Remove rows attrs) is first = absurd first
+first-posed l (request.Keep attrs) is first = absurd first
+first-posed l request.Stand is first = absurd first
 
 pub first-counted : (t : ViewTree) (p : Problem) → t ≡ first_tree t.most → p ≡ first_problem → IsCounted t.views 5 p
 first-counted t p tree is =

@@ -6,12 +6,9 @@ use borrow.Author.Differences.{ints}
 use Rattle.frac_core.specs.Fraction.{Fraction}
 use Rattle.frac_core.proofs.Integers.{cancel_mul}
 use Rattle.problem_core.specs.declared.parts.Stay.{Stay}
-use Rattle.problem_core.specs.Layout.{Problem}
 use Rattle.problem_core.specs.Corners.{Point, Agree, StandsAt, attr_column, one_column}
-use Rattle.cert_core.specs.Paths.{Path}
-use Rattle.layout_solver.specs.Begins.{Start, IsReached, IsRunTo}
+use Rattle.layout_solver.specs.Begins.{IsReached}
 use Rattle.layout_solver.specs.Layouts.{GivesAt, IsKeptLayout, Layout}
-use Rattle.scenes.specs.Steps.{LeadsTo}
 use Rattle.held_items.proofs.Lists.{all-unmapped}
 use Rattle.scenes.proofs.Engines.Wholes.{IsSettled}
 use Rattle.problem_core.proofs.Corners.Ends.{abs_same}
@@ -60,12 +57,6 @@ gives l h = (h.corner.corner.point, h.corner.corner.stands, given l h)
 -- the kept corner is an end, in order, at which the attributes have the values
 pub reached : (l : Layout) → IsKeptLayout l → IsReached l.problem l.corner l.values
 reached l h = record { ordered = h.corner.ordered; end = h.end; gives = gives l h }
-
--- a run to the kept corner leads to the values
-pub leads-to : (l : Layout) (p : Problem) (s : Start) (budget : ℕ) → IsKeptLayout l → l.problem ≡ p
-    → (path : Path) × IsRunTo s p budget l.corner path → LeadsTo s l budget
-leads-to l p s budget h done run =
-    record { path = run.0; run = subst (λ (q : Problem). IsRunTo s q budget l.corner run.0) (sym done) run.1; reached = reached l h }
 
 -- ---- for what a session hands on
 

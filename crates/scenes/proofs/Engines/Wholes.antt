@@ -14,8 +14,7 @@ use Rattle.layout_solver.specs.Layouts.{AreApart, stays_at, zeros}
 use Rattle.held_items.specs.Attributes.{HasOnly, MayBeAdded}
 use Rattle.held_items.proofs.Lists.{all-unmapped, pairs-cons, rising-append}
 use Rattle.problem_core.proofs.Sides.{zero-kept as zero-IsKept}
-use Rattle.frac_core.proofs.Lists.{pairs-map, pairs-rest as pairs-tail, pairs-unmapped}
-use Rattle.held_items.proofs.HeldRows.NextRows.{shape}
+use Rattle.frac_core.proofs.Lists.{pairs-map, pairs-rest as pairs-tail}
 use Rattle.held_items.proofs.Views.Attributes.{MayBeNew}
 
 abbrev at : ℕ × Fraction → ℕ
@@ -30,7 +29,7 @@ has-stay (v ∷ values) a (suc k, within, is) =
     let rest = has-stay values a (k, omega (arith, within), is) in
     (suc rest.0, rest.1, omega (arith, rest.2), rest.3, rest.4)
 
-among-stays : (stays : List Stay) (a : ℕ) → HasStay stays a → Contains (map (λ s. s.attr) stays) a
+pub among-stays : (stays : List Stay) (a : ℕ) → HasStay stays a → Contains (map (λ s. s.attr) stays) a
 among-stays [] a (k, s, within, is, attr) = absurd (omega (arith, within))
 among-stays (s ∷ stays) a (zero, t, within, is, attr) = (zero, omega arith, ap (λ (x : Stay). x.attr) is ∙ attr)
 among-stays (s ∷ stays) a (suc k, t, within, is, attr) =
@@ -134,25 +133,4 @@ added-whole p values attrs more n m is taken fresh below may rows_fit stays_fit 
       apart = added-apart values attrs m is.apart taken fresh;
       kept = All-append (λ (v : ℕ × Fraction). IsKept v.1) values (zeros attrs) is.kept (All-map (λ (v : ℕ × Fraction). IsKept v.1) (λ (a : ℕ). (a, zero_fraction)) attrs (λ k d within. zero-IsKept));
       stay_count = omega (arith, stays_fit, length-append values (zeros attrs), settled-count p values is, length-map attrs (λ (a : ℕ). (let v : ℕ × Fraction = (a, zero_fraction) in v)));
-    })
-
--- ---- other rows
-
--- rows of the same numbers and terms
-pub renewed-whole : (p : Problem) (values : List (ℕ × Fraction)) (rows : List Row) → IsSettled p values → All IsRow rows → map shape rows ≡ map shape p.rows → IsWhole (record { rows = rows; stays = stays_at values })
-renewed-whole p values rows is each same =
-    let attrs = map (λ s. s.attr) p.stays in
-    let only : All (HasOnly (map (λ s. s.attr) p.stays)) rows =
-    all-unmapped shape (λ (s : ℕ × List Term). All (λ t. Contains (map (λ s. s.attr) p.stays) t.attr) s.1) rows
-    (subst (All (λ (s : ℕ × List Term). All (λ t. Contains (map (λ s. s.attr) p.stays) t.attr) s.1)) (sym same)
-    (All-map (λ (s : ℕ × List Term). All (λ t. Contains (map (λ s. s.attr) p.stays) t.attr) s.1) shape p.rows (only-stays p.stays p.rows is.whole.covered))) in
-    whole-of rows values (record {
-      each = each;
-      rising = pairs-unmapped shape (λ (s t : ℕ × List Term). s.0 < t.0) rows (subst (AllPairs (λ (s t : ℕ × List Term). s.0 < t.0)) (sym same) (pairs-map shape (λ (s t : ℕ × List Term). s.0 < t.0) p.rows is.whole.rising));
-      only = subst (λ (ns : List ℕ). All (HasOnly ns) rows) (sym is.attributes) only;
-      row_count = (let long : length rows ≡ length p.rows = sym (length-map rows shape) ∙ ap length same ∙ length-map p.rows shape in omega (arith, is.whole.row_count, long));
-      numbers = settled-numbers p values is;
-      apart = is.apart;
-      kept = is.kept;
-      stay_count = omega (arith, is.whole.stay_count, settled-count p values is);
     })

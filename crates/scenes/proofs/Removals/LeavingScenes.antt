@@ -1,9 +1,7 @@
--- What a removal comes to.
-use Rattle.std.proofs.Common.{◌≡◌, ◌≢◌, inl, inr, Some, ℕ, ◌^◌, ◌<◌, Bool, true, false, cond, not, nat_eq, List, [], ◌∷◌, length, map, filter, All, IsPermutation, refl, sym, ap, ap₂, ◌∙◌, subst, arith}
-use Rattle.frac_core.specs.Fraction.{Fraction}
+-- The problems of drafts without something, and what a scene keeps of them.
+use Rattle.std.proofs.Common.{◌≡◌, ◌≢◌, inl, inr, Some, ℕ, ◌^◌, ◌<◌, Bool, true, false, cond, not, nat_eq, List, [], ◌∷◌, length, map, filter, All, AllPairs, IsPermutation, refl, sym, ap, ◌∙◌, subst, arith}
 use Rattle.std.proofs.lemmas.List.Elements.{All-filter, All-from_recursion, All-map, All-weaker, recursion_from_All}
 use Rattle.std.specs.List.{Any, Contains, list_any, AllByRecursion as Each}
-use Rattle.problem_core.specs.declared.parts.Mark.{Mark}
 use Rattle.problem_core.specs.declared.parts.Stay.{Stay}
 use Rattle.problem_core.specs.Layout.{Row, Problem}
 use Rattle.view_tree.specs.Views.{IsTree, LiveView, ViewTree}
@@ -11,77 +9,30 @@ use Rattle.view_tree.specs.Drops.{AreGoing, is_among}
 use Rattle.view_tree.specs.Drops as drops
 use Rattle.view_tree.proofs.DropLemmas.{HasParent-left, window-stays, shorter}
 use Rattle.compile_parts.specs.Meaning.{MetricList}
-use Rattle.layout_solver.specs.Layouts.{Layout, AreBest, IsKeptLayout, stays_at}
-use Rattle.layout_solver.specs.Removals.{CanLeave, HasRemoved, IsRemoveStop, Leaving, stood, with_removed}
-use Rattle.layout_solver.specs.declared.removing.RemoveStop.{RemoveStop}
-use Rattle.layout_solver.specs.declared.removing.RemoveStop.TheVariants as removal
+use Rattle.layout_solver.specs.Layouts.{Layout, IsKeptLayout, stays_at}
+use Rattle.layout_solver.specs.Removals.{CanLeave, Leaving, stood, with_removed, other_stays}
 use Rattle.held_items.specs.Items.{Item, OfWindow, OfView, Sized, OfLine, Suggested, Intrinsic, AreRows}
-use Rattle.scenes.specs.Scene.{Scene, AreDraftRows, moved}
-use Rattle.held_items.specs.Leaving.{attributes_in, goes_with, numbers_of, other_stays, staying}
-use Rattle.scenes.specs.Leaving.{stood_of, without_items, without_views}
-use Rattle.scenes.specs.Steps.{CannotLeave, HasLeft, IsLeaving, IsProblemOf}
-use Rattle.scenes.specs.Steps.{HasRun, LeaveStopsAt}
+use Rattle.scenes.specs.Scene.{moved}
+use Rattle.held_items.specs.Leaving.{attributes_in, goes_with, numbers_of, staying}
+use Rattle.scenes.specs.Leaving.{without_items, without_views}
+use Rattle.scenes.specs.Steps.{IsProblemOf}
+use Rattle.scenes.proofs.Engines.Requests.{moved-attrs, rows_is, stays_is}
 use Rattle.held_items.specs.Attributes.{IsClose, all_attributes}
-use Rattle.held_items.specs.Kept.{IsItem, IsNamed}
+use Rattle.held_items.specs.Kept.{HasSmallViews, IsItem, IsNamed}
+use Rattle.held_items.specs.declared.item.leaving.Leaver.{Leaver}
+use Rattle.held_items.specs.declared.item.leaving.Leaver.TheVariants as leaver
+use Rattle.scenes.specs.Drafts.{MayLeave}
 use Rattle.scenes.specs.Kept.{IsKept, scene_at}
-use Rattle.scenes.proofs.Removals.LeavingProblems.{apart-from-up, ids-up, no-stays-leave, numbers-held, numbers-up, rows-can, without-is}
+use Rattle.scenes.proofs.Removals.LeavingProblems.{apart-from-up, ids-up, no-stays-leave, numbers-held, numbers-up, rows-can}
+use Rattle.layout_solver.proofs.Posed.Left.{without-is}
 use Rattle.held_items.proofs.Removals.LeavingRows.{agree, keeps, rows-stay, up-pairs}
 use Rattle.scenes.proofs.Removals.LeavingViews.{attributes-up, gone-up, have-stays, left-attributes, names-none, rows-covered}
-use Rattle.scenes.proofs.Engines.Moves.{moved-is}
+use Rattle.layout_solver.proofs.Posed.Moves.{moved-is}
 use Rattle.held_items.proofs.HeldRows.Ranks.{HasRank}
 use Rattle.scenes.proofs.Engines.Reached.{settled}
 use Rattle.scenes.proofs.Engines.Wholes.{IsSettled}
 use Rattle.corner.proofs.Corners.NewCorners.{made_problem}
 use Rattle.scenes.specs.declared.scene.past.Setting.{Setting}
-
-abbrev pub parts : Scene → List Item → ℕ → Layout → Scene
-parts draft held next l = record draft { held = held; next_row = next; rows = l.problem.rows; stays = l.problem.stays; values = l.values; corner = l.corner }
-
-pub left-at : (scene draft : Scene) (held : List Item) (next : ℕ) (old new : Layout) (l : Leaving) (budget : ℕ)
-    → held ≡ draft.held → next ≡ draft.next_row → new.problem.stays ≡ draft.stays → AreDraftRows draft new.problem.rows
-    → AreBest new.problem new.values → IsLeaving scene draft new.problem.rows l → stood old ≡ stood_of scene → old.corner ≡ scene.corner → HasRun old new l budget
-    → HasLeft scene draft budget (parts draft held next new)
-left-at scene draft held next old new l budget held_is next_is stays_is are best leaves stands kept run = record {
-  becomes = record {
-    same = ap₂ (λ (hs : List Item) (ss : List Stay). parts draft hs next (record new { problem = record { rows = new.problem.rows; stays = ss } })) held_is stays_is
-        ∙ ap (λ (n : ℕ). parts draft draft.held n (record new { problem = record { rows = new.problem.rows; stays = draft.stays } })) next_is;
-    rows = are;
-    best = best;
-    reached = run.reached;
-  };
-  leaving = l;
-  leaves = leaves;
-  run = subst (λ (at : List Mark). HasRemoved (stood_of scene) at l budget new.corner) kept (subst (λ (p : Problem). HasRemoved p old.corner l budget new.corner) stands run.run);
-}
-
--- what stops the removal stops the draft
-over-stops : (scene draft : Scene) (budget : ℕ) (s : RemoveStop) → CannotLeave scene draft budget s → LeaveStopsAt scene draft budget s
-over-stops scene draft budget (removal.Unfit still at) h = h
-over-stops scene draft budget (removal.Spent path) h = h
-over-stops scene draft budget removal.OutOfMemory h = tt
-
-pub left-stops : (scene draft : Scene) (rows : List Row) (old : Layout) (l : Leaving) (budget : ℕ) (s : RemoveStop)
-    → AreDraftRows draft rows → IsLeaving scene draft rows l → stood old ≡ stood_of scene → old.corner ≡ scene.corner → IsRemoveStop (stood old) old.corner l budget s
-    → LeaveStopsAt scene draft budget s
-left-stops scene draft rows old l budget s are leaves stands kept stops =
-    over-stops scene draft budget s (record {
-      rows = rows;
-      are = are;
-      leaving = l;
-      leaves = leaves;
-      stops = subst (λ (at : List Mark). IsRemoveStop (stood_of scene) at l budget s) kept (subst (λ (p : Problem). IsRemoveStop p old.corner l budget s) stands stops);
-    })
-
-pub rows_is : (p q : Problem) → p ≡ q → p.rows ≡ q.rows
-rows_is p q e = ap (λ (r : Problem). r.rows) e
-
-pub stays_is : (p q : Problem) → p ≡ q → p.stays ≡ q.stays
-stays_is p q e = ap (λ (r : Problem). r.stays) e
-
--- the stays move, and keep their attributes
-pub moved-attrs : (stays : List Stay) (values : List (ℕ × Fraction)) → map (λ s. s.attr) (moved stays values) ≡ map (λ s. s.attr) stays
-moved-attrs [] values = refl
-moved-attrs (s ∷ stays) values = ap (λ ns. s.attr ∷ ns) (moved-attrs stays values)
 
 -- ---- rows leave alone, as those made_problem a group or made_problem a suggestion
 
@@ -91,9 +42,6 @@ module _ (tree : ViewTree) (ms : MetricList) (held : List Item) (setting : Setti
 
   moves : moved l.problem.stays l.values ≡ stays_at l.values
   moves = moved-is l.problem.stays l.values is.attributes is.apart
-
-  pub stands : stood l ≡ stood_of (scene_at tree ms held setting l)
-  stands = ap (made_problem l.problem.rows) (sym moves)
 
   module _ (goes : Item → Bool) where
     abbrev group_leaving : Leaving
@@ -108,22 +56,12 @@ module _ (tree : ViewTree) (ms : MetricList) (held : List Item) (setting : Setti
     group-problem : with_removed l group_leaving ≡ made_problem (filter (keeps (numbers_of goes held)) l.problem.rows) (moved l.problem.stays l.values)
     group-problem = without-is group_leaving (stood l) ∙ ap (made_problem (filter (keeps (numbers_of goes held)) l.problem.rows)) (no-stays-leave (stays_at l.values) ∙ sym moves)
 
-    group-leaves : (rows : List Row) → rows ≡ filter (keeps (numbers_of goes held)) l.problem.rows
-        → IsLeaving (scene_at tree ms held setting l) (without_items (scene_at tree ms held setting l) goes) rows group_leaving
-    group-leaves rows rows_are = record {
-      can = rows-can goes ms held (stood_of (scene_at tree ms held setting l)) kept.are_rows is.whole.rising;
-      rising = up-pairs (numbers_of goes held) (numbers-up goes ms held l.problem kept.are_rows is.whole.rising);
-      left = ap₂ made_problem rows_are (sym (no-stays-leave (moved l.problem.stays l.values))) ∙ sym (without-is group_leaving (stood_of (scene_at tree ms held setting l)));
-    }
+    -- their numbers rise
+    pub group-rises : AllPairs (λ a b. a < b) (numbers_of goes held)
+    group-rises = up-pairs (numbers_of goes held) (numbers-up goes ms held l.problem kept.are_rows is.whole.rising)
 
     pub group-poses : (p : Problem) → p ≡ with_removed l group_leaving → IsProblemOf (without_items (scene_at tree ms held setting l) goes) p
     group-poses p e = (subst (AreRows ms (staying goes held)) (sym (rows_is p _ (e ∙ group-problem))) group-rows, stays_is p _ (e ∙ group-problem))
-
-    pub group-stops : (budget : ℕ) (s : RemoveStop) → IsRemoveStop (stood l) l.corner group_leaving budget s
-        → LeaveStopsAt (scene_at tree ms held setting l) (without_items (scene_at tree ms held setting l) goes) budget s
-    group-stops budget s stops =
-        left-stops (scene_at tree ms held setting l) (without_items (scene_at tree ms held setting l) goes) (filter (keeps (numbers_of goes held)) l.problem.rows) l group_leaving budget s
-        group-rows (group-leaves (filter (keeps (numbers_of goes held)) l.problem.rows) refl) stands refl stops
 
     module _ (items : List Item) (new : Layout) (done : new.problem ≡ with_removed l group_leaving) (items_are : items ≡ staying goes held) where
       rows_are : new.problem.rows ≡ filter (keeps (numbers_of goes held)) l.problem.rows
@@ -134,12 +72,6 @@ module _ (tree : ViewTree) (ms : MetricList) (held : List Item) (setting : Setti
 
       are : AreRows ms (staying goes held) new.problem.rows
       are = subst (AreRows ms (staying goes held)) (sym rows_are) group-rows
-
-      pub group-left : (budget : ℕ) → AreBest new.problem new.values → HasRun l new group_leaving budget
-          → HasLeft (scene_at tree ms held setting l) (without_items (scene_at tree ms held setting l) goes) budget (scene_at tree ms items setting new)
-      group-left budget best run =
-          left-at (scene_at tree ms held setting l) (without_items (scene_at tree ms held setting l) goes) items setting.next_row l new group_leaving budget
-          items_are refl stays_are are best (group-leaves new.problem.rows rows_are) stands refl run
 
       pub group-kept : IsKept (scene_at tree ms items setting new)
       group-kept =
@@ -161,12 +93,18 @@ module _ (tree : ViewTree) (ms : MetricList) (held : List Item) (setting : Setti
 -- ---- views leave, with their rows and attributes
 
 -- their numbers are small
-pub gone-small : (t : ViewTree) (root : ℕ) (gone : List ℕ) → IsTree t → AreGoing t.views root gone → All (λ id. id < 2 ^ 29) gone
+gone-small : (t : ViewTree) (root : ℕ) (gone : List ℕ) → IsTree t → AreGoing t.views root gone → All (λ id. id < 2 ^ 29) gone
 gone-small t root gone whole going =
     subst (All (λ id. id < 2 ^ 29)) (sym going.order)
     (All-map (λ id. id < 2 ^ 29) (λ (v : LiveView). v.id) (filter (λ v. is_among gone v.id) t.views)
     (All-filter (λ v. is_among gone v.id) (λ v. v.id < 2 ^ 29) t.views
     (All-weaker (λ (v : LiveView). v.id < t.next) (λ v. v.id < 2 ^ 29) (λ v below. omega (arith, below, whole.ids)) t.views whole.below)))
+
+pub small-views : (t : ViewTree) (it : Leaver) → IsTree t → MayLeave t.views it → HasSmallViews it
+small-views t (leaver.Group name) whole may = tt
+small-views t (leaver.Views gone) whole (root, below, going) = gone-small t root gone.items whole going
+small-views t (leaver.Suggestion view word) whole may = tt
+small-views t (leaver.Intrinsic view) whole may = tt
 
 -- a line that stays is close to views that stay
 module _ (views : List LiveView) (gone : List ℕ) where
@@ -236,25 +174,11 @@ module _ (tree : ViewTree) (ms : MetricList) (held : List Item) (setting : Setti
   views-problem : with_removed l views_leaving ≡ made_problem (filter (keeps (numbers_of (goes_with gone) held)) l.problem.rows) (other_stays (attributes_in gone) (moved l.problem.stays l.values))
   views-problem = without-is views_leaving (stood l) ∙ ap (λ ss. made_problem (filter (keeps (numbers_of (goes_with gone) held)) l.problem.rows) (other_stays (attributes_in gone) ss)) (sym moves-to)
 
-  views-leave : (rows : List Row) → rows ≡ filter (keeps (numbers_of (goes_with gone) held)) l.problem.rows
-      → IsLeaving (scene_at tree ms held setting l) (without_views (scene_at tree ms held setting l) gone) rows views_leaving
-  views-leave rows rows_are = record {
-    can = can-leave (moved l.problem.stays l.values) moved-counted;
-    rising = up-pairs (numbers_of (goes_with gone) held) (numbers-up (goes_with gone) ms held l.problem kept.are_rows is-settled.whole.rising);
-    left = ap (λ rs. made_problem rs (other_stays (attributes_in gone) (moved l.problem.stays l.values))) rows_are ∙ sym (without-is views_leaving (stood_of (scene_at tree ms held setting l)));
-  }
+  pub views-rise : AllPairs (λ a b. a < b) (numbers_of (goes_with gone) held)
+  views-rise = up-pairs (numbers_of (goes_with gone) held) (numbers-up (goes_with gone) ms held l.problem kept.are_rows is-settled.whole.rising)
 
   pub views-pose : (p : Problem) → p ≡ with_removed l views_leaving → IsProblemOf (without_views (scene_at tree ms held setting l) gone) p
   views-pose p e = (subst (AreRows ms (staying (goes_with gone) held)) (sym (rows_is p _ (e ∙ views-problem))) view-rows, stays_is p _ (e ∙ views-problem))
-
-  stands-to : stood l ≡ stood_of (scene_at tree ms held setting l)
-  stands-to = ap (made_problem l.problem.rows) (sym moves-to)
-
-  pub views-stop : (budget : ℕ) (s : RemoveStop) → IsRemoveStop (stood l) l.corner views_leaving budget s
-      → LeaveStopsAt (scene_at tree ms held setting l) (without_views (scene_at tree ms held setting l) gone) budget s
-  views-stop budget s stops =
-      left-stops (scene_at tree ms held setting l) (without_views (scene_at tree ms held setting l) gone) (filter (keeps (numbers_of (goes_with gone) held)) l.problem.rows) l views_leaving budget s
-      view-rows (views-leave (filter (keeps (numbers_of (goes_with gone) held)) l.problem.rows) refl) stands-to refl stops
 
   module _ (items : List Item) (new : Layout) (done : new.problem ≡ with_removed l views_leaving) (items_are : items ≡ staying (goes_with gone) held) where
     new_rows : new.problem.rows ≡ filter (keeps (numbers_of (goes_with gone) held)) l.problem.rows
@@ -265,12 +189,6 @@ module _ (tree : ViewTree) (ms : MetricList) (held : List Item) (setting : Setti
 
     are-rows : AreRows ms (staying (goes_with gone) held) new.problem.rows
     are-rows = subst (AreRows ms (staying (goes_with gone) held)) (sym new_rows) view-rows
-
-    pub views-left : (budget : ℕ) → AreBest new.problem new.values → HasRun l new views_leaving budget
-        → HasLeft (scene_at tree ms held setting l) (without_views (scene_at tree ms held setting l) gone) budget (scene_at (drops.without tree gone) ms items setting new)
-    views-left budget best run =
-        left-at (scene_at tree ms held setting l) (without_views (scene_at tree ms held setting l) gone) items setting.next_row l new views_leaving budget
-        items_are refl new_stays are-rows best (views-leave new.problem.rows new_rows) stands-to refl run
 
     pub views-kept : IsKept (scene_at (drops.without tree gone) ms items setting new)
     views-kept =

@@ -14,9 +14,10 @@ use Rattle.view_tree.specs.Views.{LiveView}
 use Rattle.view_tree.specs.Drops.{AreGoing, goes, is_among}
 use Rattle.view_tree.proofs.DropLemmas.{closed}
 use Rattle.compile_parts.specs.Meaning.{MetricList}
+use Rattle.layout_solver.specs.Removals.{other_stays}
 use Rattle.held_items.specs.Attributes.{HasOwner, IsClose, all_attributes, view_attributes}
 use Rattle.held_items.specs.Items.{Item, OfWindow, OfView, Sized, OfLine, Suggested, Intrinsic, AreItemRows, AreRows}
-use Rattle.held_items.specs.Leaving.{attributes_in, goes_with, item_numbers, numbers_of, other_stays}
+use Rattle.held_items.specs.Leaving.{attributes_in, goes_with, item_numbers, numbers_of}
 use Rattle.held_items.specs.Kept.{IsNamed}
 use Rattle.held_items.proofs.Removals.LeavingRows.{among-append, item-ids, none-among, Up, pairs-up}
 use Rattle.held_items.proofs.Lists.{contains-cons, contains-first}

@@ -1,9 +1,9 @@
 // The parts of a scene that are kept with their earlier versions.
 ghost use Rattle.std.specs.Prelude.{◌≡◌, ◌∷◌, ◌+◌, ◌-◌, ◌<◌, ◌≤◌, length, take};
-ghost use Rattle.std.specs.Prelude.{Some, None};
+ghost use Rattle.std.specs.Prelude.{None};
 ghost use Rattle.std.specs.VecDeque.{deque_capacity};
 ghost use Rattle.layout_solver.specs.Layouts.{solution_of};
-ghost use Rattle.scenes.specs.Kept.{AreAlike};
+ghost use Rattle.scenes.specs.Kept.{AreAlike, own_or};
 ghost use Rattle.held_items.specs.declared.limits.TheConstants.{EARLIER};
 
 use held_items::Item;
@@ -11,7 +11,8 @@ use layout_solver::Engine;
 use name_tables::Metrics;
 use script_text::Direction;
 use std::collections::VecDeque;
-use version_list::VersionList;
+use std::mem;
+use version_lists::VersionList;
 use view_tree::Tree;
 
 /// How what comes next is set: the number that its first row takes, and the direction in which it is meant.
@@ -41,28 +42,31 @@ impl Past {
             setting,
         }
     }
+}
 
-    /// The scene has views of its own.
-    pub fn with_tree(tree: Tree, setting: Setting) -> Past
-        ensures { result ≡ record { tree = Some tree; metrics = None; setting = setting } }
-    {
-        Past {
-            tree: Some(tree),
-            metrics: None,
-            setting,
-        }
+// Swaps a part with `own`, if that has one.
+fn exchange<T: Drop>(own: &mut Option<T>, part: &mut T)
+    ensures there { part.new ≡ own_or own.old part.old }
+    ensures back { own_or own.new part.new ≡ part.old }
+{
+    if let Some(own) = own {
+        mem::swap(own, part);
     }
+}
 
-    /// The scene has metrics of its own.
-    pub fn with_metrics(metrics: Metrics, setting: Setting) -> Past
-        ensures { result ≡ record { tree = None; metrics = Some metrics; setting = setting } }
-    {
-        Past {
-            tree: None,
-            metrics: Some(metrics),
-            setting,
-        }
-    }
+/// Swaps the parts of a scene with those that `own` has, and returns the old ones.
+pub fn put(mut own: Past, tree: &mut Tree, metrics: &mut Metrics, setting: &mut Setting) -> Past
+    ensures tree { tree.new ≡ own_or own.tree tree.old }
+    ensures metrics { metrics.new ≡ own_or own.metrics metrics.old }
+    ensures setting { setting.new ≡ own.setting }
+    ensures old_tree { own_or result.tree tree.new ≡ tree.old }
+    ensures old_metrics { own_or result.metrics metrics.new ≡ metrics.old }
+    ensures old_setting { result.setting ≡ setting.old }
+{
+    exchange(&mut own.tree, tree);
+    exchange(&mut own.metrics, metrics);
+    mem::swap(&mut own.setting, setting);
+    own
 }
 
 // Drops the oldest.

@@ -28,7 +28,7 @@ use Rattle.session_undo.specs.Machine.{AddsView, IsDeep, IsCrowded, AreTooMany, 
 use Rattle.held_items.specs.Moving.{IsFarSize, AreNear}
 use Rattle.held_items.specs.Items.{has_size}
 use Rattle.held_items.specs.declared.item.coming.NewViews.{NewViews}
-use Rattle.session_undo.specs.Adding.{NoEnd, IsFreeName, IsFreeView, IsFreeMetric, IsViewMore, UnlessUnfree, ViewStep}
+use Rattle.session_undo.specs.Adding.{IsFreeName, IsFreeView, IsFreeMetric, IsViewMore, UnlessUnfree, ViewStep}
 use Rattle.scenes.specs.Drafts.{views_draft, metrics_draft}
 use Rattle.scenes.specs.Moving.{MayLackChanges}
 use Rattle.held_items.proofs.HeldRows.ItemRows.{rows-small}
@@ -107,16 +107,6 @@ module _ (old : State) (name parent : List ℕ) (End : Scene → Reply → State
           ),
         ),
       )
-
-  -- a cause stays one for whatever end
-  pub view-causes : (reply : Reply) (new : State) → TriedView old name parent NoEnd reply new → TriedView old name parent End reply new
-  view-causes reply new (inl h) = inl h
-  view-causes reply new (inr (a, inl h)) = inr (a, inl h)
-  view-causes reply new (inr (a, inr (b, inl h))) = inr (a, inr (b, inl h))
-  view-causes reply new (inr (a, inr (b, inr (c, inl h)))) = inr (a, inr (b, inr (c, inl h)))
-  view-causes reply new (inr (a, inr (b, inr (c, inr (d, inl h))))) = inr (a, inr (b, inr (c, inr (d, inl h))))
-  view-causes reply new (inr (a, inr (b, inr (c, inr (d, inr (e, inl h)))))) = inr (a, inr (b, inr (c, inr (d, inr (e, inl h)))))
-  view-causes reply new (inr (a, inr (b, inr (c, inr (d, inr (e, inr (f, (above, named, never)))))))) = absurd never
 
 -- ---- what the tree says of a view that is to be made
 
@@ -219,14 +209,6 @@ module _ (old : State) (name : List ℕ) (value : Fraction) (End : Scene → Rep
         ),
       )
 
-  pub metric-causes : (reply : Reply) (new : State) → TriedMetric old name value NoEnd reply new → TriedMetric old name value End reply new
-  metric-causes reply new (inl h) = inl h
-  metric-causes reply new (inr (a, inl h)) = inr (a, inl h)
-  metric-causes reply new (inr (a, inr (b, inl h))) = inr (a, inr (b, inl h))
-  metric-causes reply new (inr (a, inr (b, inr (c, inl h)))) = inr (a, inr (b, inr (c, inl h)))
-  metric-causes reply new (inr (a, inr (b, inr (c, inr (d, (rows, are, inl h)))))) = inr (a, inr (b, inr (c, inr (d, (rows, are, inl h)))))
-  metric-causes reply new (inr (a, inr (b, inr (c, inr (d, (rows, are, inr (e, never))))))) = absurd never
-
 -- what is known of a metric when its rows are made
 pub record IsNamed (old : State) (name : List ℕ) (value : Fraction) (ms : MetricList) : Type 0 where
   pub free : view_named old.scene.tree.views name ≡ None
@@ -263,9 +245,3 @@ module _ (old : State) (w h : Fraction) (End : Scene → Reply → State → Typ
 
   pub window-passed : (reply : Reply) (new : State) → (IsFarSize old.scene.held w h → ⊥) → End (with_window old.scene w h) reply new → TriedWindow old w h End reply new
   window-passed reply new near end = inr (room, inr (near, end))
-
--- a cause stays one for whatever end
-pub window-causes : (old : State) (w h : Fraction) (End : Scene → Reply → State → Type 0) (reply : Reply) (new : State) → TriedWindow old w h NoEnd reply new → TriedWindow old w h End reply new
-window-causes old w h End reply new (inl x) = inl x
-window-causes old w h End reply new (inr (a, inl x)) = inr (a, inl x)
-window-causes old w h End reply new (inr (a, inr (b, never))) = absurd never

@@ -10,8 +10,11 @@ use Rattle.conflict_core.specs.declared.found.CoreStop.{CoreStop}
 use Rattle.conflict_core.specs.declared.found.CoreStop.TheVariants as trial
 use Rattle.conflict_core.proofs.CoreLaws.{shown_is_core}
 use Rattle.session_undo.specs.Explained.{core_refusal}
-use Rattle.session_undo.specs.Explaining.{Explains}
-use Rattle.session_undo.specs.Replies.{MayRefuse, found_reply}
+use Rattle.scenes.specs.Scene.{Scene}
+use Rattle.scenes.specs.Steps.{IsProblemOf}
+use Rattle.session_undo.specs.Explaining.{Explains, ExplainsDraft}
+use Rattle.session_undo.specs.Replies.{MayRefuse, Reply, found_reply}
+use Rattle.session_undo.proofs.Commands.Steps.{refuses}
 use Rattle.session_undo.specs.State.{State}
 
 module _ (old : State) (p : Problem) where
@@ -32,3 +35,8 @@ module _ (old : State) (p : Problem) where
   stop-explains (trial.Unfit held at) stopped = inr (inr (inl (record { held = held; at = at; stopped = stopped; refused = (refl, refl) })))
   stop-explains (trial.Spent held path) stopped = inr (inr (inr (record { held = held; path = path; stopped = stopped; refused = (refl, refl) })))
   stop-explains trial.OutOfMemory stopped = tt
+
+-- the same of the problem of a draft
+pub draft-stop-explains : (old : State) (draft : Scene) (p : Problem) → IsProblemOf draft p → (s : CoreStop) → IsCoreStop p old.budget s → MayRefuse (λ reply. ExplainsDraft old draft reply old) (core_refusal s)
+draft-stop-explains old draft p of s stopped =
+    refuses (λ (reply : Reply). Explains old p reply old) (λ (reply : Reply). ExplainsDraft old draft reply old) (core_refusal s) (λ reply explains. (p, of, explains)) (stop-explains old p s stopped)

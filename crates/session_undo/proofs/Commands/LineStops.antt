@@ -27,8 +27,8 @@ use Rattle.problem_core.specs.Layout.{Row}
 use Rattle.scenes.specs.Scene.{Scene, with_line}
 use Rattle.session_undo.specs.State.{State}
 use Rattle.session_undo.specs.Machine.{TriedConstraint, TriedFormat}
-use Rattle.session_undo.specs.Adding.{AddStop, StopStep, NoEnd, IsFreeLine}
-use Rattle.session_undo.proofs.Commands.Steps.{Excludes, NoStop, stop-step, add-stop, add-passed, line-causes}
+use Rattle.session_undo.specs.Adding.{AddStop, StopStep, IsFreeLine}
+use Rattle.session_undo.proofs.Commands.Steps.{Excludes, NoStop, stop-step, add-stop, add-passed}
 
 -- stops of different kinds are different
 abbrev tag : CompileStop → ℕ
@@ -101,18 +101,15 @@ module _ (old : State) (group : List ℕ) (l : Linear) (End : Scene → Reply �
   abbrev LineIs : CompiledLine → Type 0
   LineIs = IsLineOf old l
 
-  pub constraint-passed : (c : CompiledLine) (kept : List ℕ) (rows : List Row) (reply : Reply) (new : State) → LineIs c → IsFreeLine old group kept c rows → End (with_line old.scene kept c) reply new → TriedConstraint old group l End reply new
-  constraint-passed c kept rows reply new is free end =
-      add-passed old group LineMay LineIs End 1 c kept rows reply new (line-none old.scene.tree.views old.scene.metrics meant old.scene.next_row c is) is (ap length is.row.1) free end
+  pub constraint-passed : (c : CompiledLine) (rows : List Row) (reply : Reply) (new : State) → LineIs c → IsFreeLine old group c rows → End (with_line old.scene group c) reply new → TriedConstraint old group l End reply new
+  constraint-passed c rows reply new is free end =
+      add-passed old group LineMay LineIs End 1 c rows reply new (line-none old.scene.tree.views old.scene.metrics meant old.scene.next_row c is) is (ap length is.row.1) free end
 
   pub constraint-full : (c : CompiledLine) (reply : Reply) (new : State) → LineIs c → AddStop old group c reply new → TriedConstraint old group l End reply new
   constraint-full c reply new is step = add-stop old group LineMay LineIs End 1 c reply new (line-none old.scene.tree.views old.scene.metrics meant old.scene.next_row c is) (ap length is.row.1) step
 
   pub constraint-stopped : (s : CompileStop) (reply : Reply) (new : State) → LineMay s → StopStep old group 1 s reply new → TriedConstraint old group l End reply new
   constraint-stopped s reply new may step = stop-step old group LineMay LineIs End 1 s reply new (line-excludes old.scene.tree.views old.scene.metrics meant old.scene.next_row) may step
-
-  pub constraint-causes : (reply : Reply) (new : State) → TriedConstraint old group l NoEnd reply new → TriedConstraint old group l End reply new
-  constraint-causes reply new h = line-causes old group 1 LineMay LineIs End reply new h
 
 -- ---- formats
 
@@ -157,9 +154,9 @@ module _ (old : State) (group : List ℕ) (align : Option Align) (f : FormatMean
   abbrev count : ℕ
   count = text_count old align f
 
-  pub format-passed : (c : CompiledLine) (kept : List ℕ) (rows : List Row) (reply : Reply) (new : State) → FormatIs c → IsFreeLine old group kept c rows → End (with_line old.scene kept c) reply new → TriedFormat old group align f End reply new
-  format-passed c kept rows reply new is free end =
-      add-passed old group FormatMay FormatIs End count c kept rows reply new (format-none old.scene.tree.views old.scene.metrics f align old.scene.direction old.scene.next_row c is) is
+  pub format-passed : (c : CompiledLine) (rows : List Row) (reply : Reply) (new : State) → FormatIs c → IsFreeLine old group c rows → End (with_line old.scene group c) reply new → TriedFormat old group align f End reply new
+  format-passed c rows reply new is free end =
+      add-passed old group FormatMay FormatIs End count c rows reply new (format-none old.scene.tree.views old.scene.metrics f align old.scene.direction old.scene.next_row c is) is
       (compiled_count old.scene.tree.views old.scene.metrics f align old.scene.direction old.scene.next_row c is) free end
 
   pub format-full : (c : CompiledLine) (reply : Reply) (new : State) → FormatIs c → AddStop old group c reply new → TriedFormat old group align f End reply new
@@ -170,6 +167,3 @@ module _ (old : State) (group : List ℕ) (align : Option Align) (f : FormatMean
   pub format-stopped : (n : ℕ) (s : CompileStop) (reply : Reply) (new : State) → n ≡ text_count old align f → FormatMay s → StopStep old group n s reply new → TriedFormat old group align f End reply new
   format-stopped n s reply new n_is may step =
       stop-step old group FormatMay FormatIs End count s reply new (format-excludes old.scene.tree.views old.scene.metrics f align old.scene.direction old.scene.next_row) may (subst (λ (m : ℕ). StopStep old group m s reply new) n_is step)
-
-  pub format-causes : (reply : Reply) (new : State) → TriedFormat old group align f NoEnd reply new → TriedFormat old group align f End reply new
-  format-causes reply new h = line-causes old group count FormatMay FormatIs End reply new h

@@ -10,7 +10,7 @@ use Rattle.compile_parts.specs.Meaning.{IsRowRank, unknown_object}
 use Rattle.compile_parts.specs.declared.stops.KindWord.TheVariants as kind
 use Rattle.name_tables.specs.declared.stops.LimitWord.TheVariants as word
 use Rattle.held_items.specs.declared.item.intrinsic.IntrinsicSize.{IntrinsicSize}
-use Rattle.held_items.specs.declared.item.intrinsic.NewIntrinsic.TheVariants as wished
+use Rattle.session_undo.specs.declared.wishes.NewIntrinsic.TheVariants as wished
 use Rattle.held_items.specs.Items.{Intrinsic, Item, OfLine, OfView, OfWindow, Sized, Suggested, intrinsic_name, intrinsic_of}
 use Rattle.held_items.specs.Moving.{FitsAfter}
 use Rattle.scenes.specs.Drafts.{IsNearIntrinsic, IsNextIntrinsic}
@@ -19,24 +19,11 @@ use Rattle.scenes.specs.Scene.{Scene, with_intrinsic, with_preferred}
 use Rattle.session_undo.specs.State.{State}
 use Rattle.session_undo.specs.declared.changes.Ranks.{Ranks}
 use Rattle.session_undo.specs.Replies.{Kind, Limit, Reply, Unknown}
-use Rattle.session_undo.specs.Machine.{AreKnownPulls, IsCrowded, IsRankless, Sizes, SizesFor, TriedSize, TriedUnsize, UnlessPullsRankless, UnlessRankless, UnlessUnknown, hugging, intrinsic_at, resisting}
+use Rattle.session_undo.specs.Machine.{AreKnownPulls, IsCrowded, IsRankless, Sizes, SizesFor, TriedSize, TriedUnsize, UnlessPullsRankless, UnlessUnknown, hugging, intrinsic_at, resisting}
 use Rattle.session_undo.specs.Adding.{AreRanks, IsFirstIntrinsic, IsHeldIntrinsic, IsIntrinsicFor, IsLaterIntrinsic, IsPulled, NoEnd, SizeStep}
 use Rattle.held_items.proofs.HeldRows.Ranks.{rank-in-thousand}
 
 -- ---- priorities
-
--- an unknown name is a cause, whatever comes else
-pub rank-unknown : (old : State) (priority : Option Meant) (F : Reply → State → Type 0) (reply : Reply) (new : State) → UnlessUnknown old priority (λ r n. ⊥) reply new → UnlessUnknown old priority F reply new
-rank-unknown old priority F reply new (inl h) = inl h
-rank-unknown old priority F reply new (inr (a, never)) = absurd never
-
--- a known name is none
-pub rank-known : (old : State) (priority : Option Meant) (F : Reply → State → Type 0) (reply : Reply) (new : State) → unknown_object old.scene.tree.views old.scene.metrics priority ≡ None → F reply new → UnlessUnknown old priority F reply new
-rank-known old priority F reply new known h = inr ((λ other named. none-some other (sym known ∙ named)), h)
-
-pub rank-wanting : (old : State) (priority : Option Meant) (F : Reply → State → Type 0) → unknown_object old.scene.tree.views old.scene.metrics priority ≡ None → IsRankless old.scene priority
-    → UnlessRankless old priority F (Kind kind.Priority) old
-rank-wanting old priority F known none = inr ((λ other named. none-some other (sym known ∙ named)), inl (none, refl, refl))
 
 module _ (old : State) (hug resist : Option Meant) (F : Reply → State → Type 0) where
   pub hug-unknown : (reply : Reply) (new : State) → UnlessUnknown old (hugging hug) (λ r n. ⊥) reply new → UnlessPullsRankless old hug resist F reply new
@@ -84,29 +71,6 @@ written-meant (Some o) some = refl
 pub one-meant : (hug resist : Option Object) → IsSome hug ⊎ IsSome resist → IsSome (object_view hug) ⊎ IsSome (object_view resist)
 one-meant hug resist (inl some) = inl (written-meant hug some)
 one-meant hug resist (inr some) = inr (written-meant resist some)
-
--- ---- a cause stays one for whatever end
-
-module _ (old : State) (width height : Fraction) (hug resist : Option Meant) (End : Scene → Reply → State → Type 0) (reply : Reply) (new : State) where
-  sizes-causes : (view hugs resists : ℕ) (held : Option IntrinsicSize) → Sizes old view width height hug resist hugs resists held NoEnd reply new → Sizes old view width height hug resist hugs resists held End reply new
-  sizes-causes view hugs resists None (inl h) = inl h
-  sizes-causes view hugs resists None (inr (a, never)) = absurd never
-  sizes-causes view hugs resists (Some s) (inl h) = inl h
-  sizes-causes view hugs resists (Some s) (inr (a, inl h)) = inr (a, inl h)
-  sizes-causes view hugs resists (Some s) (inr (a, inr (b, never))) = absurd never
-
-  for-causes : (name : List ℕ) → SizesFor old name width height hug resist NoEnd reply new → SizesFor old name width height hug resist End reply new
-  for-causes name (view, found, hugs, resists, hugs_is, resists_is, step) =
-      (view, found, hugs, resists, hugs_is, resists_is, sizes-causes view.id hugs resists (intrinsic_of view.id old.scene.held) step)
-
-  pub size-causes : (name : List ℕ) → TriedSize old name width height hug resist NoEnd reply new → TriedSize old name width height hug resist End reply new
-  size-causes name (inl h) = inl h
-  size-causes name (inr (a, h)) = inr (a, pulls-map old hug resist (SizesFor old name width height hug resist NoEnd) (SizesFor old name width height hug resist End) reply new (for-causes name) h)
-
-pub unsize-causes : (old : State) (name : List ℕ) (End : Scene → Reply → State → Type 0) (reply : Reply) (new : State) → TriedUnsize old name NoEnd reply new → TriedUnsize old name End reply new
-unsize-causes old name End reply new (inl h) = inl h
-unsize-causes old name End reply new (inr (a, (view, found, inl h))) = inr (a, (view, found, inl h))
-unsize-causes old name End reply new (inr (a, (view, found, inr (b, never)))) = absurd never
 
 -- ---- the size that a view has
 

@@ -1,5 +1,5 @@
 -- What the changes of a session come to.
-use Rattle.std.proofs.Common.{◌≡◌, ℕ, ◌<◌, List, [], ◌∷◌, length, refl, sym, ap, ap₂, ◌∙◌, subst, inl, inr, arith}
+use Rattle.std.proofs.Common.{◌≡◌, ℕ, ◌<◌, List, [], length, refl, ap, ap₂, ◌∙◌, subst, inl, inr, arith}
 use Rattle.name_tables.specs.declared.stops.LimitWord.{LimitWord}
 use Rattle.name_tables.specs.declared.stops.LimitWord.TheVariants as word
 use Rattle.compile_parts.specs.declared.stops.KindWord.{KindWord}
@@ -7,22 +7,18 @@ use Rattle.compile_parts.specs.declared.stops.CompileStop.{CompileStop}
 use Rattle.compile_parts.specs.declared.stops.CompileStop.TheVariants as stop
 use Rattle.constraint_compile.specs.Compiled.{CompiledLine}
 use Rattle.problem_core.specs.Layout.{Row}
-use Rattle.cert_core.specs.declared.stops.RunStop.{RunStop}
-use Rattle.cert_core.specs.declared.stops.RunStop.TheVariants as run
 use Rattle.cert_core.specs.Paths.{Path}
 use Rattle.session_undo.specs.declared.reply.Refusal.{Refusal}
 use Rattle.session_undo.specs.declared.reply.Refusal.TheVariants as refusal
-use Rattle.std.specs.Prelude.{IfOk, IfErr, OnOk}
+use Rattle.std.specs.Prelude.{OnOk}
 use Rattle.std.specs.declared.result.Result.{Result}
 use Rattle.std.specs.declared.result.Result.TheVariants.{Ok, Err}
-use Rattle.session_undo.specs.Replies.{Reply, Done, Limit, Kind, MayRefuse, accepted}
+use Rattle.session_undo.specs.Replies.{Reply, Done, Limit, Kind, MayRefuse}
 use Rattle.scenes.specs.Scene.{AreDraftRows, History, IsBestScene, Remembers, Scene, with_earlier, with_line}
 use Rattle.session_undo.specs.State.{State}
-use Rattle.session_undo.specs.Machine.{TriedUndo, Unless, UnlessAny, Keeps, Solves, SolvesFree, Stands, TriedLine, AddsLine, IsCrowded}
+use Rattle.session_undo.specs.Machine.{Unless, UnlessAny, Keeps, SolvesFree, Stands, TriedLine, AddsLine, IsCrowded}
 use Rattle.scenes.specs.Steps.{IsSolved}
-use Rattle.diagnosis.specs.Probes.{NoConflict}
-use Rattle.session_undo.specs.Adding.{refusal_of, answer_of, NoEnd, UnlessFull, AddStop, StopStep, IsGroupLimit, IsGroupFree, IsLineLimit, IsLineFree, IsFreeLine}
-use Rattle.scenes.specs.Steps.{RunStopsAt}
+use Rattle.session_undo.specs.Adding.{UnlessFull, AddStop, StopStep, IsGroupLimit, IsGroupFree, IsLineLimit, IsLineFree, IsFreeLine}
 
 -- what refuses for a narrower relation refuses for a wider one
 pub refuses : (F G : Reply → Type 0) (r : Refusal) → ((reply : Reply) → F reply → G reply) → MayRefuse F r → MayRefuse G r
@@ -66,47 +62,8 @@ kept-after old history is = ap (λ (earlier : List Scene). record old { scene = 
 abbrev Solved : Scene → State → Scene → Type 0
 Solved draft old scene = (path : Path) × IsSolved old.scene draft old.budget path scene
 
-run-accepts : (draft : Scene) (old : State) (history : History) → Solved draft old history.scene → IsKeptIn old history → SolvesFree old draft Done (after old history)
+pub run-accepts : (draft : Scene) (old : State) (history : History) → Solved draft old history.scene → IsKeptIn old history → SolvesFree old draft Done (after old history)
 run-accepts draft old history solved kept = inl (record { done = refl; path = solved.0; solved = solved.1; kept = kept-after old history kept })
-
--- what stops the engine on a draft's problem refuses the draft
-free-refuses : (draft : Scene) (old : State) (stop : RunStop) → RunStopsAt old.scene draft old.budget stop → NoConflict stop
-    → MayRefuse (λ reply. SolvesFree old draft reply old) (refusal_of stop)
-free-refuses draft old (run.Conflict by) stopped free = absurd free
-free-refuses draft old (run.Unfit at) stopped free = inr (inl (record { at = at; stopped = stopped; refused = (refl, refl) }))
-free-refuses draft old (run.Spent path) stopped free = inr (inr (record { path = path; stopped = stopped; refused = (refl, refl) }))
-free-refuses draft old run.OutOfMemory stopped free = tt
-
-stop-refuses : (draft : Scene) (old : State) (stop : RunStop) → RunStopsAt old.scene draft old.budget stop
-    → MayRefuse (λ reply. Solves old draft reply old) (refusal_of stop)
-stop-refuses draft old (run.Conflict by) stopped =
-    inl (record { by = by; rows = stopped.rows; are = stopped.are; shown = stopped.stops; refused = (refl, refl) })
-stop-refuses draft old (run.Unfit at) stopped = inr (inr (inl (record { at = at; stopped = stopped; refused = (refl, refl) })))
-stop-refuses draft old (run.Spent path) stopped = inr (inr (inr (record { path = path; stopped = stopped; refused = (refl, refl) })))
-stop-refuses draft old run.OutOfMemory stopped = tt
-
--- ---- the answer to a run
-
-module _ (draft : Scene) (old : State) (history : History) where
-  pub free-accepted : (end : Result (Unit {0}) RunStop) → IfOk end (λ done. Solved draft old history.scene) → OnOk end (IsKeptIn old history)
-      → IfOk (answer_of end) (λ reply. SolvesFree old draft (accepted reply) (after old history))
-  free-accepted (Ok done) solved kept = run-accepts draft old history solved kept
-  free-accepted (Err stop) solved kept = tt
-
-  pub free-refused : (end : Result (Unit {0}) RunStop) → IfErr end (RunStopsAt old.scene draft old.budget) → IfErr end NoConflict
-      → IfErr (answer_of end) (MayRefuse (λ reply. SolvesFree old draft reply old))
-  free-refused (Ok done) stops free = tt
-  free-refused (Err stop) stops free = free-refuses draft old stop stops free
-
-  pub run-accepted : (end : Result (Unit {0}) RunStop) → IfOk end (λ done. Solved draft old history.scene) → OnOk end (IsKeptIn old history)
-      → IfOk (answer_of end) (λ reply. Solves old draft (accepted reply) (after old history))
-  run-accepted (Ok done) solved kept = inr (run-accepts draft old history solved kept)
-  run-accepted (Err stop) solved kept = tt
-
-  pub run-refused : (end : Result (Unit {0}) RunStop) → IfErr end (RunStopsAt old.scene draft old.budget)
-      → IfErr (answer_of end) (MayRefuse (λ reply. Solves old draft reply old))
-  run-refused (Ok done) stops = tt
-  run-refused (Err stop) stops = stop-refuses draft old stop stops
 
 -- ---- standing
 
@@ -124,18 +81,9 @@ stands draft old history is rows best kept = record {
 
 -- ---- taking back
 
-no-earlier : (s : Scene) (rest : List Scene) → s ∷ rest ≡ [] → ⊥
-no-earlier s rest is = absurd (omega (arith, ap (λ (scenes : List Scene). length scenes) is))
-
--- the scene that comes back was the latest earlier one
-pub undo-takes : (old : State) (Other : Reply → State → Reply → State → Type 0) (history : History) (reply : Reply) (new : State) → old.earlier ≡ history.scene ∷ history.earlier
-    → Other Done (after old history) reply new → TriedUndo old Other reply new
-undo-takes old Other history reply new is other = inr ((λ none. no-earlier history.scene history.earlier (sym is ∙ none)), (history.scene, history.earlier, is, other))
-
--- where there are earlier scenes one is the latest
-pub latest-earlier : (earlier : List Scene) → 0 < length earlier → (scene : Scene) × (rest : List Scene) × (earlier ≡ scene ∷ rest)
-latest-earlier [] some = absurd (omega (arith, some))
-latest-earlier (scene ∷ rest) some = (scene, rest, refl)
+-- where there are some, there are not none
+pub some-earlier : (earlier : List Scene) → 0 < length earlier → earlier ≡ [] → ⊥
+some-earlier earlier some none = absurd (omega (arith, some, ap (λ (scenes : List Scene). length scenes) none))
 
 -- the stops of a compiler exclude each other
 pub record Excludes (May : CompileStop → Type 0) : Type 0 where
@@ -211,9 +159,9 @@ module _ (old : State) (group : List ℕ) (May : CompileStop → Type 0) (Is : C
       )
 
   -- a line that is compiled, and for which there is room
-  pub add-passed : (count : ℕ) (line : CompiledLine) (kept : List ℕ) (rows : List Row) (reply : Reply) (new : State) → NoStop May → Is line → length line.rows ≡ count → IsFreeLine old group kept line rows
-      → End (with_line old.scene kept line) reply new → TriedLine old group count May Is End reply new
-  add-passed count line kept rows reply new none is long free end =
+  pub add-passed : (count : ℕ) (line : CompiledLine) (rows : List Row) (reply : Reply) (new : State) → NoStop May → Is line → length line.rows ≡ count → IsFreeLine old group line rows
+      → End (with_line old.scene group line) reply new → TriedLine old group count May Is End reply new
+  add-passed count line rows reply new none is long free end =
       inr (
         none.unknown,
         inr (
@@ -224,23 +172,12 @@ module _ (old : State) (group : List ℕ) (May : CompileStop → Type 0) (Is : C
               none.kind,
               inr (
                 subst (λ (n : ℕ). IsCrowded old n → ⊥) long free.free.1,
-                inr (none.limit, (line, is, subst (λ (name : List ℕ). End (with_line old.scene name line) reply new) free.name end)),
+                inr (none.limit, (line, is, end)),
               ),
             ),
           ),
         ),
       )
-
--- a cause stays one for whatever end
-pub line-causes : (old : State) (group : List ℕ) (count : ℕ) (May : CompileStop → Type 0) (Is : CompiledLine → Type 0) (End : Scene → Reply → State → Type 0) (reply : Reply) (new : State) → TriedLine old group count May Is NoEnd reply new
-    → TriedLine old group count May Is End reply new
-line-causes old group count May Is End reply new (inl h) = inl h
-line-causes old group count May Is End reply new (inr (a, inl h)) = inr (a, inl h)
-line-causes old group count May Is End reply new (inr (a, inr (b, inl h))) = inr (a, inr (b, inl h))
-line-causes old group count May Is End reply new (inr (a, inr (b, inr (c, inl h)))) = inr (a, inr (b, inr (c, inl h)))
-line-causes old group count May Is End reply new (inr (a, inr (b, inr (c, inr (d, inl h))))) = inr (a, inr (b, inr (c, inr (d, inl h))))
-line-causes old group count May Is End reply new (inr (a, inr (b, inr (c, inr (d, inr (e, inl h)))))) = inr (a, inr (b, inr (c, inr (d, inr (e, inl h)))))
-line-causes old group count May Is End reply new (inr (a, inr (b, inr (c, inr (d, inr (e, inr (f, (line, is, never)))))))) = absurd never
 
 -- ---- limits
 

@@ -21,30 +21,6 @@ use Rattle.session_undo.specs.Adding.{IsFirstSuggestion, IsHeldSuggestion, IsLat
 use Rattle.scenes.specs.Drafts.{IsNearSuggestion, IsNextSuggestion}
 use Rattle.held_items.proofs.HeldRows.Ranks.{rank-in-thousand}
 
--- ---- a cause stays one for whatever end
-
-module _ (old : State) (attr : AttrWord) (value : Fraction) (priority : Option Meant) (End : Scene → Reply → State → Type 0) (reply : Reply) (new : State) where
-  suggests-causes : (view rank : ℕ) (held : Option Suggestion) → Suggests old view attr value priority rank held NoEnd reply new → Suggests old view attr value priority rank held End reply new
-  suggests-causes view rank None (inl h) = inl h
-  suggests-causes view rank None (inr (a, inl h)) = inr (a, inl h)
-  suggests-causes view rank None (inr (a, inr (b, (c, is, never)))) = absurd never
-  suggests-causes view rank (Some s) (inl h) = inl h
-  suggests-causes view rank (Some s) (inr (a, inl h)) = inr (a, inl h)
-  suggests-causes view rank (Some s) (inr (a, inr (b, (c, is, inl h)))) = inr (a, inr (b, (c, is, inl h)))
-  suggests-causes view rank (Some s) (inr (a, inr (b, (c, is, inr (d, never))))) = absurd never
-
-  pub suggest-causes : (name : List ℕ) → TriedSuggest old name attr value priority NoEnd reply new → TriedSuggest old name attr value priority End reply new
-  suggest-causes name (inl h) = inl h
-  suggest-causes name (inr (a, inl h)) = inr (a, inl h)
-  suggest-causes name (inr (a, inr (b, inl h))) = inr (a, inr (b, inl h))
-  suggest-causes name (inr (a, inr (b, inr (c, (view, found, rank, is, step))))) =
-      inr (a, inr (b, inr (c, (view, found, rank, is, suggests-causes view.id rank (suggestion_of view.id attr old.scene.held) step))))
-
-pub release-causes : (old : State) (name : List ℕ) (attr : AttrWord) (End : Scene → Reply → State → Type 0) (reply : Reply) (new : State) → TriedRelease old name attr NoEnd reply new → TriedRelease old name attr End reply new
-release-causes old name attr End reply new (inl h) = inl h
-release-causes old name attr End reply new (inr (a, (view, found, inl h))) = inr (a, (view, found, inl h))
-release-causes old name attr End reply new (inr (a, (view, found, inr (b, never)))) = absurd never
-
 -- ---- no cause is there
 
 -- the suggestion with this row, of this attribute of this view, in this direction

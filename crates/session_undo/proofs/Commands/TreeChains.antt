@@ -18,7 +18,7 @@ use Rattle.session_undo.specs.Replies.{Reply, Outside, Unknown, Taken, Limit, Ki
 use Rattle.scenes.specs.Scene.{Scene}
 use Rattle.session_undo.specs.State.{State}
 use Rattle.session_undo.specs.Machine.{AddsBranch, IsCrowded, IsMisshapen, TriedTree, Unless, UnlessAny}
-use Rattle.session_undo.specs.Adding.{NoEnd, IsFreeTree}
+use Rattle.session_undo.specs.Adding.{IsFreeTree}
 use Rattle.scenes.specs.Drafts.{views_draft}
 use Rattle.session_undo.proofs.Commands.Chains.{not-both, not-some}
 
@@ -134,16 +134,6 @@ module _ (old : State) (text : List ℕ) (start : ℕ) (End : Scene → Reply �
           ),
         ),
       ))
-
-  -- a cause stays one for whatever end
-  pub tree-causes : (reply : Reply) (new : State) → TriedTree old text start NoEnd reply new → TriedTree old text start End reply new
-  tree-causes reply new (inl h) = inl h
-  tree-causes reply new (inr (a, inl h)) = inr (a, inl h)
-  tree-causes reply new (inr (a, inr (b, (tree, read, inl h)))) = inr (a, inr (b, (tree, read, inl h)))
-  tree-causes reply new (inr (a, inr (b, (tree, read, inr (c, inl h))))) = inr (a, inr (b, (tree, read, inr (c, inl h))))
-  tree-causes reply new (inr (a, inr (b, (tree, read, inr (c, inr (d, (parent, goes, inl h))))))) = inr (a, inr (b, (tree, read, inr (c, inr (d, (parent, goes, inl h))))))
-  tree-causes reply new (inr (a, inr (b, (tree, read, inr (c, inr (d, (parent, goes, inr (e, inl h)))))))) = inr (a, inr (b, (tree, read, inr (c, inr (d, (parent, goes, inr (e, inl h)))))))
-  tree-causes reply new (inr (a, inr (b, (tree, read, inr (c, inr (d, (parent, goes, inr (e, inr (f, never))))))))) = absurd never
 
 -- ---- what the tree's text leads to
 

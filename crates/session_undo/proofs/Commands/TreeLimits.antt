@@ -5,40 +5,43 @@ use Rattle.std.specs.declared.result.Result.{Result}
 use Rattle.std.specs.declared.result.Result.TheVariants.{Ok, Err}
 use Rattle.std.proofs.lemmas.List.Elements.{All-cons, All-from_recursion, All-head, All-same, All-tail, All-take}
 use Rattle.problem_core.specs.declared.parts.Mark.{Mark}
-use Rattle.cert_core.specs.declared.stops.RunStop.{RunStop}
-use Rattle.layout_solver.specs.declared.removing.RemoveStop.{RemoveStop}
-use Rattle.held_items.specs.declared.item.intrinsic.NewIntrinsic.TheVariants as wished
-use Rattle.held_items.specs.declared.item.suggesting.NewSuggestion.TheVariants as made
-use Rattle.scenes.specs.Drafts.{Removing, Solving, updated}
+use Rattle.layout_solver.specs.declared.request.RequestStop.{RequestStop}
+use Rattle.held_items.specs.declared.item.leaving.Leaver.TheVariants as leaver
+use Rattle.scenes.specs.Drafts.{Any, Free, Kind, Left, MayTake, Turned, drafted, kind_of}
 use Rattle.scenes.specs.Scene.{Becomes, History, Remembers, Scene, first_history, with_earlier}
-use Rattle.scenes.specs.declared.scene.updates.Update.{Update}
-use Rattle.scenes.specs.declared.scene.updates.Update.TheVariants as update
+use Rattle.scenes.specs.Steps.{ComesTo}
+use Rattle.scenes.specs.declared.scene.draft.Draft.{Draft}
+use Rattle.scenes.specs.declared.scene.draft.Draft.TheVariants as draft
 use Rattle.session_undo.specs.Kept.{AreLimitsOf}
 use Rattle.session_undo.specs.State.{Limits}
 
 -- ---- as many views may be live
 
-pub updated-most : (old : Scene) (u : Update) → (updated old u).tree.most ≡ old.tree.most
-updated-most old (update.Metrics new) = refl
-updated-most old (update.Size size) = refl
-updated-most old (update.Line new) = refl
-updated-most old (update.Suggestion (made.First s)) = refl
-updated-most old (update.Suggestion (made.Again s)) = refl
-updated-most old (update.Intrinsic (wished.First s)) = refl
-updated-most old (update.Intrinsic (wished.Again s)) = refl
+drafted-most : (old : Scene) (d : Draft) → MayTake old d → (drafted old d).tree.most ≡ old.tree.most
+drafted-most old (draft.Views new) may = may.2
+drafted-most old (draft.Metrics new) may = refl
+drafted-most old (draft.More new) may = refl
+drafted-most old (draft.Renewed renewal) may = refl
+drafted-most old (draft.Out (leaver.Group group)) may = refl
+drafted-most old (draft.Out (leaver.Views gone)) may = refl
+drafted-most old (draft.Out (leaver.Suggestion view word)) may = refl
+drafted-most old (draft.Out (leaver.Intrinsic view)) may = refl
+drafted-most old (draft.Turn to) may = refl
+drafted-most old (draft.Keep view) may = refl
 
 becomes-most : (draft new : Scene) (most : ℕ) → Becomes draft new → draft.tree.most ≡ most → new.tree.most ≡ most
 becomes-most draft new most becomes is = ap (λ (s : Scene). s.tree.most) becomes.same ∙ is
 
-pub solved-most : (old : History) (draft : Scene) (budget : ℕ) (new : History) (end : Result (Unit {0}) RunStop) → draft.tree.most ≡ old.scene.tree.most → Solving old draft budget new end
-    → IfOk end (λ done. new.scene.tree.most ≡ old.scene.tree.most)
-solved-most old draft budget new (Ok done) is solved = becomes-most draft new.scene old.scene.tree.most solved.1.becomes is
-solved-most old draft budget new (Err stop) is solved = tt
+comes-most : (kind : Kind) (old draft : Scene) (budget : ℕ) (new : Scene) (most : ℕ) → draft.tree.most ≡ most → ComesTo kind old draft budget new → new.tree.most ≡ most
+comes-most Free old draft budget new most is solved = becomes-most draft new most solved.1.becomes is
+comes-most Any old draft budget new most is solved = becomes-most draft new most solved.1.becomes is
+comes-most Left old draft budget new most is left = becomes-most draft new most left.becomes is
+comes-most Turned old draft budget new most is turned = ap (λ (s : Scene). s.tree.most) turned.same ∙ is
 
-pub left-most : (old : History) (draft : Scene) (budget : ℕ) (new : History) (end : Result (Unit {0}) RemoveStop) → draft.tree.most ≡ old.scene.tree.most → Removing old draft budget new end
-    → IfOk end (λ done. new.scene.tree.most ≡ old.scene.tree.most)
-left-most old draft budget new (Ok done) is left = becomes-most draft new.scene old.scene.tree.most left.becomes is
-left-most old draft budget new (Err stop) is left = tt
+pub taken-most : (old : Scene) (d : Draft) (budget : ℕ) (new : Scene) (end : Result (Unit {0}) RequestStop) → MayTake old d → IfOk end (λ done. ComesTo (kind_of d) old (drafted old d) budget new)
+    → IfOk end (λ done. new.tree.most ≡ old.tree.most)
+taken-most old d budget new (Ok done) may comes = comes-most (kind_of d) old (drafted old d) budget new old.tree.most (drafted-most old d may) comes
+taken-most old d budget new (Err stop) may comes = tt
 
 -- ---- the limits
 

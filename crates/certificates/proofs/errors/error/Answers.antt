@@ -6,7 +6,7 @@ use Rattle.problem_core.specs.declared.parts.Rel.{Rel}
 use Rattle.problem_core.specs.declared.parts.Mark.{Mark}
 use Rattle.problem_core.specs.declared.parts.Side.TheVariants.{Under, Over}
 use Rattle.problem_core.specs.Corners.{place}
-use Rattle.corner.specs.Views.{HasValueAt}
+use Rattle.corner_ends.specs.Views.{HasValueAt}
 use Rattle.certificates.specs.Errors.{IsLack}
 use Rattle.certificates.proofs.ErrorFacts.{row_error, row_mark}
 use Rattle.certificates.proofs.errors.error.Goals as goal

@@ -1,7 +1,7 @@
 use Rattle.std.proofs.Common.{List, get_or, sym, subst, AllPairs, Contains}
 use Rattle.problem_core.specs.declared.parts.Level.{Level}
 use Rattle.problem_core.specs.declared.parts.Level.TheVariants.{Priority}
-use Rattle.corner.specs.Views.{IsInUse, IsStronger}
+use Rattle.corner_ends.specs.Views.{IsInUse, IsStronger}
 use Rattle.certificates.proofs.Certified.{own_balances, own_certifies}
 use Rattle.certificates.proofs.CornerLevels.{itself, own_all, own_more, stronger_than_next, used_at}
 use Rattle.certificates.proofs.levels.certificate.Goals as goal

@@ -2,6 +2,7 @@ use Rattle.std.proofs.Common.{ℕ, sym, subst, All}
 use Rattle.std.proofs.lemmas.Result.{IfOk-weaker}
 use Rattle.problem_core.specs.Layout.{HasStay, Problem}
 use Rattle.layout_solver.specs.Layouts.{AreBest}
+use Rattle.layout_solver.specs.Requests.{run_of}
 use Rattle.conflict_core.specs.Cores.{trial}
 use Rattle.conflict_core.specs.Shown.{IsSolution}
 use Rattle.conflict_core.specs.Trials.{IsOutcome, IsStopOfTrial}
@@ -24,5 +25,5 @@ returns-in_ok-taken-in-Ok-clause-outcome c =
 
 pub returns-in-Err-clause-outcome : goal.returns-in-Err-clause-outcome
 returns-in-Err-clause-outcome c =
-    IfOk-weaker c.outcome_of.result (λ outcome. (p : Problem) (budget : ℕ) → IsStopOfTrial p c.args.ids.now budget c.in-Err.stop → IsOutcome p c.args.ids.now outcome)
+    IfOk-weaker c.outcome_of.result (λ outcome. (p : Problem) (budget : ℕ) → IsStopOfTrial p c.args.ids.now budget (run_of c.in-Err.stop) → IsOutcome p c.args.ids.now outcome)
     (IsOutcome c.args.t.now.problem.now c.args.ids.now) (λ outcome told. told c.args.t.now.problem.now c.args.t.now.budget c.in-Err.ensures.stop) c.outcome_of.ensures.refuted

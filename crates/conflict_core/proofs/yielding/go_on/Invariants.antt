@@ -4,12 +4,12 @@ use Rattle.conflict_core.specs.Searches.{IsSearch, left_of}
 use Rattle.conflict_core.specs.Yielding.{GivesWay}
 use Rattle.conflict_core.proofs.yielding.go_on.Given as goal
 
-abbrev pub invariant-loop-alloc : goal.invariant-loop-alloc
-invariant-loop-alloc l = record {
+abbrev pub invariant-loop-last : goal.invariant-loop-last
+invariant-loop-last l = record {
   way : IsSearch l.t.problem.now l.s;
   gives : GivesWay l.t.problem.now l.s.rows.items l.last l.e;
   rows : l.clash.rows.now ≡ (trial l.t.problem.now l.s.rows.items).rows;
 }
 
-abbrev pub decreases-loop-alloc : goal.decreases-loop-alloc
-decreases-loop-alloc l = left_of l.s
+abbrev pub decreases-loop-last : goal.decreases-loop-last
+decreases-loop-last l = left_of l.s

@@ -3,8 +3,8 @@ use Rattle.problem_core.specs.Layout.{HasStay, Problem}
 use Rattle.corner_lines.specs.Joins.{with_attr}
 use Rattle.corner_table.specs.Tables.{lists_of}
 use Rattle.corner_joins.proofs.Attributes.AttrLevels.{attr_marks, attr_problem}
-use Rattle.corner_exchange.proofs.Basics.SmallFacts.{on_ok}
-use Rattle.corner_packing.proofs.PastFacts.{alike_same, past_same}
+use Rattle.corner_table.proofs.Basics.SmallFacts.{on_ok}
+use Rattle.corner_table.proofs.Corners.HistoryFacts.{alike_same, past_same}
 use Rattle.corner.proofs.Attributes.CornerAttrs.{attr_consistent, attr_names}
 use Rattle.corner.proofs.corner.join_attr.Goals as goal
 

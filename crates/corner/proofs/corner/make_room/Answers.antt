@@ -1,5 +1,5 @@
 use Rattle.corner_table.specs.Tables.{lists_of}
-use Rattle.corner_exchange.proofs.Basics.SmallFacts.{on_ok}
+use Rattle.corner_table.proofs.Basics.SmallFacts.{on_ok}
 use Rattle.corner.proofs.Additions.PackedJoins.{packed_left}
 use Rattle.corner.proofs.corner.make_room.Goals as goal
 

@@ -1,7 +1,7 @@
 use Rattle.std.proofs.Common.{◌∙◌, ap}
 use Rattle.corner_table.specs.Tables.{lists_of, marks_at, problem_of}
-use Rattle.corner.proofs.Removals.DroppedConsistent.{drop_consistent}
-use Rattle.corner.proofs.Removals.DroppedKept.{IsDrop, drop_marks, going}
+use Rattle.corner_leaving.proofs.Removals.DroppedConsistent.{drop_consistent}
+use Rattle.corner_leaving.proofs.Removals.DroppedKept.{IsDrop, drop_marks, going}
 use Rattle.corner.proofs.Swaps.NextConsistent.{marked_next}
 use Rattle.corner.proofs.corner.take_row.Goals as goal
 

@@ -1,7 +1,7 @@
 use Rattle.std.proofs.Common.{subst, sym}
 use Rattle.corner_exchange.specs.Swaps.TurnedLevels.{IsTurnStop}
 use Rattle.corner_table.specs.Tables.{lists_of}
-use Rattle.corner.proofs.AstrayStays.{turned_stays}
+use Rattle.corner_shifts.proofs.AstrayStays.{turned_stays}
 use Rattle.corner.proofs.Swaps.NextConsistent.{marked_next, turned_seen}
 use Rattle.corner.proofs.Swaps.SettledNext.{turned_settled}
 use Rattle.corner.proofs.corner.turn_settled.Goals as goal

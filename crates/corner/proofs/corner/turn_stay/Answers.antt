@@ -1,6 +1,6 @@
 use Rattle.std.proofs.Common.{None}
 use Rattle.corner_table.specs.Tables.{lists_of}
-use Rattle.corner.proofs.AstrayStays.{turned_stays}
+use Rattle.corner_shifts.proofs.AstrayStays.{turned_stays}
 use Rattle.corner.proofs.Safety.{turned_safe}
 use Rattle.corner.proofs.Swaps.NextConsistent.{marked_next, turned_seen}
 use Rattle.corner.proofs.Swaps.SettledNext.{turned_settled}

@@ -1,8 +1,8 @@
 use Rattle.corner_table.specs.Tables.{lists_of}
-use Rattle.corner_exchange.proofs.Basics.SmallFacts.{on_ok}
-use Rattle.corner.proofs.AstrayStays.{shifted_astray}
+use Rattle.corner_table.proofs.Basics.SmallFacts.{on_ok}
+use Rattle.corner_shifts.proofs.AstrayStays.{shifted_astray}
 use Rattle.corner.proofs.Safety.{shifted_safe}
-use Rattle.corner.proofs.Shifts.GrownInside.{held_named}
+use Rattle.corner_shifts.proofs.Shifts.GrownInside.{held_named}
 use Rattle.corner.proofs.known.shift_known.Goals as goal
 
 pub line_slot-line-requires-clause-row : goal.line_slot-line-requires-clause-row

@@ -1,6 +1,6 @@
 use Rattle.std.proofs.Common.{length}
 use Rattle.corner_table.specs.Tables.{lists_of}
-use Rattle.corner.proofs.AstrayStays.{stood_astray}
+use Rattle.corner_shifts.proofs.AstrayStays.{stood_astray}
 use Rattle.corner.proofs.Safety.{stood_safe}
 use Rattle.corner.proofs.known.stand_known.Goals as goal
 

@@ -6,7 +6,7 @@ use Rattle.corner_exchange.specs.Swaps.Touched.{AreLevelsPut, IsPut}
 use Rattle.corner_exchange.proofs.Pivots.TouchedFacts.{home_put}
 use Rattle.corner_exchange.proofs.exchange.push_line_level.Goals as goal
 use Rattle.corner_exchange.proofs.exchange.push_line_level.Goals.{else-is_touched-via-then-is_touched+else-not-is_last, else-is_touched-via-else-is_touched}
-use Rattle.corner_exchange.proofs.Basics.SmallFacts.{on_ok as on_ok_so}
+use Rattle.corner_table.proofs.Basics.SmallFacts.{on_ok as on_ok_so}
 
 pub returns-then-not-is_last-clause-put : goal.returns-then-not-is_last-clause-put
 returns-then-not-is_last-clause-put c =

@@ -3,7 +3,7 @@ use Rattle.row_core.specs.Rows.{IsKeptRow}
 use Rattle.problem_core.specs.declared.parts.RowName.TheVariants.{Held}
 use Rattle.corner_lines.specs.LineEquations.{deviation}
 use Rattle.corner_table.specs.Tables.{lists_of}
-use Rattle.corner_exchange.proofs.Basics.SmallFacts.{on_ok}
+use Rattle.corner_table.proofs.Basics.SmallFacts.{on_ok}
 use Rattle.corner_joins.proofs.Additions.RowPlaced.{placed}
 use Rattle.corner_joins.proofs.Additions.RowTerms.{sum_below}
 use Rattle.corner_joins.proofs.Additions.SlotsLeft.{row_room}

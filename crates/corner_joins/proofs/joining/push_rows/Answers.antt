@@ -9,7 +9,7 @@ use Rattle.corner_joins.proofs.Additions.RowPaths.{begins_one, none_pushed, one_
 use Rattle.corner_joins.proofs.Additions.RowStops.{add_stop, loop_whole, next_rows, rest_rows, stopped, this_row, values_one}
 use Rattle.corner_joins.proofs.Additions.RowFits.{all_rows_fit, next_rows_fit, no_rows_fit}
 use Rattle.corner_joins.proofs.joining.push_rows.Goals as goal
-use Rattle.corner_joins.proofs.Basics.SmallFacts.{same_again as history_trans}
+use Rattle.corner_table.proofs.Corners.HistoryFacts.{same_again as history_trans}
 
 pub loop-i-init : goal.loop-i-init
 loop-i-init c = record {

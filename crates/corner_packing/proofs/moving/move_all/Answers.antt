@@ -1,4 +1,4 @@
-use Rattle.corner_packing.proofs.PastFacts.{alike_same, past_same}
+use Rattle.corner_table.proofs.Corners.HistoryFacts.{alike_same, past_same}
 use Rattle.corner_packing.proofs.moving.move_all.Goals as goal
 
 pub returns-clause-before : goal.returns-clause-before

@@ -1,6 +1,6 @@
 use Rattle.std.proofs.Common.{◌≡◌, ◌<◌, ◌∙◌, List, ℕ, slice_index_or, sym, refl, subst, arith}
 use Rattle.std.proofs.lemmas.Result.{on_ok_weaker}
-use Rattle.number_slots.specs.Numbers.{AreRenumbered}
+use Rattle.version_lists.specs.Numbers.{AreRenumbered}
 use Rattle.corner_table.specs.declared.table.TheConstants.{LEVELS}
 use Rattle.corner_table.specs.Tables.{lists_of}
 use Rattle.corner_packing.proofs.PackingFacts.{are_packed, columns_placed, rising_places}

@@ -2,8 +2,8 @@ use Rattle.std.proofs.Common.{rules, ◌≡◌, ◌∙◌, ℕ, List, [], slice_
 use Rattle.std.proofs.lemmas.Option.{get_or_from_slice_get}
 use Rattle.std.proofs.lemmas.Result.{on_ok_weaker}
 use Rattle.row_core.specs.Renames.{AreKeptApart, place_in, renamed}
-use Rattle.indexed_rows.specs.Indexes.{row_at}
-use Rattle.indexed_rows.specs.Matrices.{IsBelow}
+use Rattle.version_lists.specs.Indexes.{row_at}
+use Rattle.version_lists.specs.Matrices.{IsBelow}
 use Rattle.corner_packing.specs.Moving.{HasPlaces}
 use Rattle.corner_packing.proofs.MovingFacts.{stayed, was_put}
 use Rattle.corner_packing.proofs.PackingFacts.{below_count, kept_apart}

@@ -1,7 +1,7 @@
 use Rattle.std.proofs.Common.{◌≡◌, ◌∙◌, ◌<◌, suc, length, slice_index_or, List, [], Some, ap, ap₂, subst, sym, arith, ℕ}
 use Rattle.std.proofs.lemmas.Option.{get_or_from_slice_get}
 use Rattle.row_core.specs.Rows.{Term}
-use Rattle.indexed_rows.specs.Lists.{HasColumn}
+use Rattle.version_lists.specs.Lists.{HasColumn}
 use Rattle.problem_core.specs.declared.parts.RowName.{RowName}
 use Rattle.corner_table.specs.Tables.{lists_of, problem_of, row_at}
 use Rattle.corner_writings.specs.Entries.{columns_but}

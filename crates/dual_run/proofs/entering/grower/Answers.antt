@@ -16,6 +16,6 @@ returns-then-is_above-2-clause-some c =
     let under : SFits w64 c.number_at-under.result = search rules in
     let fits : SFits w64 c.opposite-over.result = search rules in
     let up = simp to_z-of_z at c.is_above-2.ensures.yes in
-    let over = simp to_z-of_z at c.opposite-over.ensures in
+    let over = simp to_z-of_z at c.opposite-over.ensures.value in
     simp to_z-of_z (grown_choice c.args.c.now.problem c.args.c.now.marks c.args.leave c.args.row Over c.opposite-over.result c.requires.row
     (λ w writes. over ∙ c.number_at-under.ensures.over w writes) (up c.if-is_above-2.true))

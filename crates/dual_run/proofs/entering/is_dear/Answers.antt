@@ -3,7 +3,7 @@ use Rattle.std.specs.Int.{w64}
 use Rattle.std.proofs.lemmas.Int.{to_z-of_z}
 use Rattle.problem_core.specs.declared.parts.Level.{Level}
 use Rattle.problem_core.specs.Levels.{IsLevelAt}
-use Rattle.corner.specs.Views.{IsReducedAt}
+use Rattle.corner_ends.specs.Views.{IsReducedAt}
 use Rattle.dual_run.proofs.Turns.{dear_cost, free_cost}
 use Rattle.dual_run.proofs.entering.is_dear.Goals as goal
 

@@ -3,7 +3,7 @@ use Rattle.std.specs.declared.option.Option.{Option}
 use Rattle.std.specs.Option.{option_to_list}
 use Rattle.std.specs.Vec.{vec_len}
 use Rattle.problem_core.specs.declared.parts.RowName.{RowName}
-use Rattle.corner.specs.Views.{IsNamed}
+use Rattle.corner_ends.specs.Views.{IsNamed}
 use Rattle.dual_run.proofs.Lows.{no_low_left, shorter}
 use Rattle.dual_run.proofs.Names.{no_name}
 use Rattle.dual_run.proofs.leaving.leaving.Goals as goal

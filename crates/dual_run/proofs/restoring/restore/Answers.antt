@@ -2,7 +2,7 @@ use Rattle.std.proofs.Common.{true, ap, refl, subst, ◌≡◌, ◌<◌, ℕ, le
 use Rattle.std.proofs.lemmas.Result.{err_from_is_err_and}
 use Rattle.problem_core.specs.Corners.{NoNegativeValue}
 use Rattle.problem_core.specs.Levels.{CostsAbove}
-use Rattle.corner.specs.Views.{Scene}
+use Rattle.corner_ends.specs.Views.{Scene}
 use Rattle.cert_core.specs.Stops.{IsStopOf}
 use Rattle.corner_ends.specs.Runs.{FromHere}
 use Rattle.corner_ends.proofs.Marks.{none_here, some_here}

@@ -4,8 +4,8 @@ use Rattle.problem_core.specs.declared.parts.Mark.{Mark}
 use Rattle.frac_core.specs.declared.memory.Stop.TheVariants.{Refused}
 use Rattle.problem_core.specs.Corners.{Swap, exchanged}
 use Rattle.cert_core.specs.Stops.{IsStopOf}
-use Rattle.corner.specs.Views.{CornerView, IsNamed}
-use Rattle.corner.specs.Changes.{IsUnfitStop}
+use Rattle.corner_ends.specs.Views.{CornerView, IsNamed}
+use Rattle.corner_ends.specs.Changes.{IsUnfitStop}
 use Rattle.corner_ends.specs.Runs.{FromHere}
 use Rattle.corner_ends.specs.Trails.{HasRun, IsTrailOf}
 use Rattle.corner_ends.proofs.Marks.{in_mark}

@@ -1,11 +1,11 @@
 use Rattle.std.proofs.Common.{refl, sym, subst}
 use Rattle.problem_core.specs.declared.parts.RowName.TheVariants.{Held}
 use Rattle.problem_core.specs.Layout.{Problem}
-use Rattle.corner.specs.Views.{IsNamed}
+use Rattle.corner_ends.specs.Views.{IsNamed}
 use Rattle.corner_ends.proofs.RequiredTimes.{row_named}
 use Rattle.dual_run.proofs.Moved.{lows_shifted}
 use Rattle.dual_run.proofs.shifts.shift.Goals as goal
-use Rattle.corner.proofs.Shifts.ShiftLines.{shift_named as named_shifted}
+use Rattle.corner_table.proofs.Seen.ShiftedLines.{shift_named as named_shifted}
 
 pub list_low-requires : goal.list_low-requires
 list_low-requires c =

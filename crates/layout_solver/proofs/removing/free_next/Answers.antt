@@ -8,7 +8,7 @@ use Rattle.layout_solver.proofs.removing.free_next.Goals as goal
 
 pub returns-in-Ok-clause-freed : goal.returns-in-Ok-clause-freed
 returns-in-Ok-clause-freed c = λ p kept k apart h.
-    row_freed p kept c.args.rows.now c.args.gone c.requires.within c.args.c.now c.free_row.new.c _ c.show_corner.ensures.kept.corner k apart c.in-Ok.ensures.some c.in-Ok.ensures.none c.in-Ok.ensures.problem c.in-Ok.ensures.same c.in-Ok.ensures.values h
+    row_freed p kept c.args.rows.now c.args.gone c.requires.within c.args.c.now c.free_row.new.c _ c.show_corner.ensures.kept.corner k apart c.in-Ok.ensures.some c.in-Ok.ensures.fresh c.in-Ok.ensures.none c.in-Ok.ensures.problem c.in-Ok.ensures.same c.in-Ok.ensures.values h
 
 pub returns-in-Err-Unfit-clause-stop : goal.returns-in-Err-Unfit-clause-stop
 returns-in-Err-Unfit-clause-stop c = λ p kept k apart h.

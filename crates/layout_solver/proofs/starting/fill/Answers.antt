@@ -1,4 +1,4 @@
-use Rattle.std.proofs.Common.{◌∙◌, [], sym, subst}
+use Rattle.std.proofs.Common.{◌∙◌, sym, subst}
 use Rattle.problem_core.specs.Layout.{Problem}
 use Rattle.problem_core.specs.Kept.{IsWhole}
 use Rattle.corner_laws.specs.Lifts.{with_rows}

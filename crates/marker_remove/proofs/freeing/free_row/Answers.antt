@@ -1,8 +1,7 @@
-use Rattle.std.proofs.Common.{rules, ◌≡◌, ap, subst, sym}
-use Rattle.problem_core.specs.declared.parts.Mark.{Mark}
+use Rattle.std.proofs.Common.{rules, ◌≡◌, subst, sym}
 use Rattle.problem_core.specs.Layout.{Problem}
 use Rattle.problem_core.specs.Corners.{NoNegativeValue, Swap, exchanged}
-use Rattle.corner.specs.Views.{CornerView}
+use Rattle.corner_ends.specs.Views.{CornerView}
 use Rattle.marker_remove.specs.Freed.{DoStand}
 use Rattle.marker_remove.proofs.FreedPaths.{freed_inside}
 use Rattle.marker_remove.proofs.StayMoves.{row_outside, some_mover}
@@ -32,7 +31,7 @@ unfit-requires-clause-standing c =
 pub returns-in-Ok-clause-some : goal.returns-in-Ok-clause-some
 returns-in-Ok-clause-some c =
     let s : Swap = record { enter = c.mark_of-enter.result; leave = c.leaving-leave.result } in record {
-      row = ap (λ (m : Mark). m.row) c.mark_of-enter.ensures;
+      enter = c.mark_of-enter.ensures;
       stay = (c.leaving-leave.ensures.attr, c.leaving-leave.ensures.stay);
       exchange = c.in-Ok.ensures.exchange;
       same = no_value c.args.c.now.problem c.args.c.now.marks (record { enter = c.mark_of-enter.result; leave = c.leaving-leave.result }) c.leaving-leave.ensures.attr c.show_corner.ensures.kept.whole c.show_corner.ensures.kept.corner c.requires.standing c.leaving-leave.ensures.stay c.leaving-leave.ensures.moves.1.0;

@@ -2,7 +2,7 @@ use Rattle.std.proofs.Common.{◌≡◌, ◌∙◌, false, List, [], ◌∷◌, 
 use Rattle.problem_core.specs.declared.parts.Mark.{Mark}
 use Rattle.problem_core.specs.Corners.{Swap, exchanged}
 use Rattle.corner_ends.specs.Begins.{HasExchanged}
-use Rattle.corner.specs.Views.{in_order}
+use Rattle.corner_ends.specs.Views.{in_order}
 use Rattle.marker_remove.proofs.FreedPaths.{back_of, ordered_again, ordered_same, went_back}
 use Rattle.marker_remove.proofs.freeing.freed_path.Goals as goal
 

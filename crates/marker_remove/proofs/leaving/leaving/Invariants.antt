@@ -1,6 +1,6 @@
 use Rattle.std.proofs.Common.{List, All, take}
 use Rattle.problem_core.specs.declared.stops.What.{What}
-use Rattle.corner.specs.Views.{AreMovers}
+use Rattle.corner_ends.specs.Views.{AreMovers}
 use Rattle.marker_remove.proofs.StayMoves.{IsNoStay}
 use Rattle.marker_remove.proofs.leaving.leaving.Given as goal
 

@@ -1,5 +1,5 @@
 use Rattle.std.proofs.Common.{◌+◌, arith, subst}
-use Rattle.corner.specs.Views.{IsNamed}
+use Rattle.corner_ends.specs.Views.{IsNamed}
 use Rattle.primal_run.specs.Deciding.{stays_before}
 use Rattle.primal_run.proofs.TieKeys.{level_there, row_first, stay_before, stay_not_before}
 use Rattle.primal_run.proofs.deciding.is_line_before.Goals as goal

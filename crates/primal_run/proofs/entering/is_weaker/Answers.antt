@@ -1,5 +1,5 @@
 use Rattle.std.proofs.Common.{◌+◌, subst}
-use Rattle.corner.specs.Views.{IsNamed}
+use Rattle.corner_ends.specs.Views.{IsNamed}
 use Rattle.primal_run.specs.Deciding.{stays_before}
 use Rattle.primal_run.proofs.TieKeys.{level_there}
 use Rattle.primal_run.proofs.entering.is_weaker.Goals as goal

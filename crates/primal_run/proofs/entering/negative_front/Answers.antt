@@ -2,7 +2,7 @@ use Rattle.std.proofs.Common.{rules, subst, IfNone, SFits}
 use Rattle.std.specs.Int.{w64}
 use Rattle.std.specs.declared.option.Option.{Option}
 use Rattle.std.proofs.lemmas.Int.{to_z-of_z}
-use Rattle.corner.specs.Views.{HasNoFront, IsFrontOf}
+use Rattle.corner_ends.specs.Views.{HasNoFront, IsFrontOf}
 use Rattle.corner_ends.proofs.Fronts.{front_above, front_below, no_front}
 use Rattle.corner_ends.proofs.Marks.{some_here}
 use Rattle.corner_writings.specs.declared.levels.Front.{Front}

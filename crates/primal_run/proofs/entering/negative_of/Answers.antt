@@ -1,7 +1,7 @@
 use Rattle.std.proofs.Common.{subst, sym}
 use Rattle.problem_core.specs.declared.parts.Mark.{Mark}
 use Rattle.problem_core.specs.declared.parts.Side.TheVariants.{Under, Over}
-use Rattle.corner.specs.Views.{IsFoundOf}
+use Rattle.corner_ends.specs.Views.{IsFoundOf}
 use Rattle.corner_ends.proofs.Marks.{mark_is, no_negative}
 use Rattle.primal_run.proofs.entering.negative_of.Goals as goal
 

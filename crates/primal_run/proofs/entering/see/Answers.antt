@@ -1,6 +1,6 @@
 use Rattle.std.proofs.Common.{subst, slice_get}
-use Rattle.corner.specs.Views.{IsNamed}
-use Rattle.corner.specs.Changes.{HasNoNegative}
+use Rattle.corner_ends.specs.Views.{IsNamed}
+use Rattle.corner_ends.specs.Changes.{HasNoNegative}
 use Rattle.corner_ends.proofs.Marks.{got_holds, same_got}
 use Rattle.primal_run.proofs.entering.see.Goals as goal
 

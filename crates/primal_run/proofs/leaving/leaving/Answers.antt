@@ -4,7 +4,7 @@ use Rattle.std.specs.Prelude.{None}
 use Rattle.std.proofs.lemmas.List.{take_all}
 use Rattle.problem_core.specs.declared.stops.What.{What}
 use Rattle.problem_core.specs.Corners.{place}
-use Rattle.corner.specs.Views.{MovesWith}
+use Rattle.corner_ends.specs.Views.{MovesWith}
 use Rattle.corner_ends.specs.Trails.{in_tie_order}
 use Rattle.primal_run.specs.Leaving.{IsFirstOf, IsRatioOrNone}
 use Rattle.primal_run.specs.declared.ties.Ratio.{Ratio}

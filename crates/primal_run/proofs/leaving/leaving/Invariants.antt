@@ -2,7 +2,7 @@ use Rattle.std.proofs.Common.{false, List, take}
 use Rattle.problem_core.specs.declared.parts.Mark.{Mark}
 use Rattle.problem_core.specs.declared.stops.What.{What}
 use Rattle.problem_core.specs.Corners.{place}
-use Rattle.corner.specs.Views.{AreMovers}
+use Rattle.corner_ends.specs.Views.{AreMovers}
 use Rattle.corner_ends.specs.Trails.{IsTrailOf, in_tie_order}
 use Rattle.primal_run.specs.Leaving.{IsFirstOf, IsRatioOrNone}
 use Rattle.primal_run.proofs.leaving.leaving.Given as goal

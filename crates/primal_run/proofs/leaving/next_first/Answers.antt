@@ -2,7 +2,7 @@ use Rattle.std.proofs.Common.{sym, subst, Some, ◌++◌, ◌∷◌, []}
 use Rattle.std.specs.declared.option.Option.{Option}
 use Rattle.problem_core.specs.declared.stops.What.{What}
 use Rattle.problem_core.specs.Corners.{place}
-use Rattle.corner.specs.Views.{MovesWith}
+use Rattle.corner_ends.specs.Views.{MovesWith}
 use Rattle.corner_ends.specs.Trails.{in_tie_order}
 use Rattle.primal_run.specs.Leaving.{IsFirstOf}
 use Rattle.primal_run.specs.declared.ties.Ratio.{Ratio}

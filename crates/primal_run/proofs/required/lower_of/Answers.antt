@@ -1,7 +1,7 @@
 use Rattle.std.proofs.Common.{ℤ, pos, ◌≤ℤ◌}
 use Rattle.problem_core.specs.declared.parts.Level.TheVariants.{Priority}
 use Rattle.problem_core.specs.declared.parts.Side.TheVariants.{Under, Over}
-use Rattle.corner.specs.Views.{IsReducedAt}
+use Rattle.corner_ends.specs.Views.{IsReducedAt}
 use Rattle.primal_run.specs.Entering.{HasNoRequired}
 use Rattle.corner_ends.proofs.Marks.{mark_is, none_maps}
 use Rattle.primal_run.proofs.FirstLevel.{no_required}

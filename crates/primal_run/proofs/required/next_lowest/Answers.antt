@@ -1,4 +1,4 @@
-use Rattle.corner.specs.Views.{IsNamed}
+use Rattle.corner_ends.specs.Views.{IsNamed}
 use Rattle.corner_ends.proofs.Marks.{got_holds}
 use Rattle.primal_run.proofs.required.next_lowest.Goals as goal
 

@@ -4,7 +4,7 @@ use Rattle.problem_core.specs.declared.parts.Mark.{Mark}
 use Rattle.problem_core.specs.declared.parts.RowName.{RowName}
 use Rattle.problem_core.specs.Corners.{NoNegativeColumn}
 use Rattle.problem_core.specs.Levels.{CostsAbove}
-use Rattle.corner.specs.Views.{AreCandidates}
+use Rattle.corner_ends.specs.Views.{AreCandidates}
 use Rattle.corner_ends.specs.Columns.{IsNegative}
 use Rattle.primal_run.specs.Entering.{MayEnter}
 use Rattle.primal_run.proofs.FirstLevel.{negative_enters, none_listed}

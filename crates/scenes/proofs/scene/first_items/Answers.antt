@@ -1,5 +1,5 @@
 use Rattle.std.proofs.Common.{◌++◌, ◌∷◌, [], ◌∙◌, ap, ap₂}
-use Rattle.version_list.specs.Versions.{Versions}
+use Rattle.version_lists.specs.Versions.{Versions}
 use Rattle.held_items.specs.declared.item.Item as declared
 use Rattle.held_items.specs.declared.item.Item.TheVariants as kind
 use Rattle.scenes.proofs.First.{versions}

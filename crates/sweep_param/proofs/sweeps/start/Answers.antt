@@ -11,4 +11,4 @@ run_stop-requires c =
 
 pub returns-in-Ok-clause-started : goal.returns-in-Ok-clause-started
 returns-in-Ok-clause-started c =
-    parts_started c.args.p.now c.rows.result.now c.stays.result.now c.args.range.now.budget c.in-Ok.corner c.rows.ensures c.stays.ensures c.in-Ok.ensures.problem c.in-Ok.ensures.end c.in-Ok.ensures.path
+    parts_started c.args.p.now c.rows.result.now c.stays.result.now c.args.range.now.budget c.in-Ok.corner c.rows.ensures c.stays.ensures c.in-Ok.ensures.problem c.show_corner.ensures.kept c.in-Ok.ensures.end c.in-Ok.ensures.path

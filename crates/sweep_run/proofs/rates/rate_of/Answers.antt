@@ -3,7 +3,7 @@ use Rattle.std.specs.Int.{w64}
 use Rattle.std.proofs.lemmas.Int.{to_z-of_z}
 use Rattle.problem_core.specs.declared.parts.Mark.{Mark}
 use Rattle.problem_core.specs.Corners.{IsIn, place}
-use Rattle.corner.specs.Views.{IsCoefficientOf, IsMarkOf}
+use Rattle.corner_ends.specs.Views.{IsCoefficientOf, IsMarkOf}
 use Rattle.sweep_run.specs.Ways.{backwards}
 use Rattle.sweep_run.proofs.BackRates.{coefficient_fits, over_is_mark, rate_none, rate_outside}
 use Rattle.sweep_run.proofs.EndFacts.{end_is_kept}

@@ -1,7 +1,7 @@
 use Rattle.std.proofs.Common.{subst, sym}
 use Rattle.problem_core.specs.Layout.{Problem}
 use Rattle.problem_core.specs.Corners.{IsCorner, attr_column}
-use Rattle.corner.specs.Views.{HasValueAt}
+use Rattle.corner_ends.specs.Views.{HasValueAt}
 use Rattle.sweep_laws.proofs.EachCorner.{corner_at_each}
 use Rattle.sweep_run.proofs.EndFacts.{end_is_kept, there_is_here}
 use Rattle.sweep_run.proofs.ValueBack.{value_there_is, value_unfit}

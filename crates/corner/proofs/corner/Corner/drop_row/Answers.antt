@@ -5,7 +5,7 @@ use Rattle.corner_lines.specs.Removals.{without_row}
 use Rattle.corner_exchange.specs.Stops.{IsUnfitStop}
 use Rattle.corner_table.specs.Tables.{lists_of, marks_at, problem_of}
 use Rattle.corner.specs.Views.{CornerView}
-use Rattle.corner.proofs.Removals.DroppedTables.{inside_row}
+use Rattle.corner_leaving.proofs.Removals.DroppedTables.{inside_row}
 use Rattle.corner.proofs.corner.Corner.drop_row.Goals as goal
 
 ok-with : {T E : Type 0} (r : Result T E) (P Q : Type 0) → (P → Q) → OnOk r P → IfOk r (λ x. Q)

@@ -3,7 +3,7 @@ use Rattle.corner.proofs.Corners.CornerFacts.{forget_before, forget_kept}
 use Rattle.corner.specs.Views.{CornerView}
 use Rattle.corner_table.specs.Histories.{lists_before}
 use Rattle.corner_table.specs.Tables.{lists_of, scene_at}
-use Rattle.corner.proofs.AstrayStays.{same_known}
+use Rattle.corner.proofs.Corners.CornerFacts.{same_known}
 use Rattle.corner.proofs.corner.Corner.forget.Goals as goal
 
 pub invariant_of-self : goal.invariant_of-self

@@ -1,11 +1,11 @@
 use Rattle.std.proofs.Common.{◌≡◌, ◌∷◌, [], map, take, subst, sym}
-use Rattle.version_list.specs.declared.TheConstants.{VERSION_LIMIT}
+use Rattle.version_lists.specs.declared.versions.TheConstants.{VERSION_LIMIT}
 use Rattle.corner.specs.Views.{CornerView}
 use Rattle.corner.proofs.Corners.CornerFacts.{mark_before, mark_kept}
 use Rattle.corner.specs.Changes.{scene_of}
 use Rattle.corner_table.specs.Histories.{lists_before}
 use Rattle.corner_table.specs.Tables.{lists_of, scene_at}
-use Rattle.corner.proofs.AstrayStays.{same_known}
+use Rattle.corner.proofs.Corners.CornerFacts.{same_known}
 use Rattle.corner.proofs.corner.Corner.mark.Goals as goal
 
 pub invariant_of-self : goal.invariant_of-self

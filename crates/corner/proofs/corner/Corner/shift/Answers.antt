@@ -4,7 +4,7 @@ use Rattle.corner_exchange.specs.Stops.{IsUnfitStop}
 use Rattle.corner.specs.Views.{CornerView}
 use Rattle.corner_table.specs.Tables.{lists_of}
 use Rattle.corner_table.specs.Invariants.{IsEarlier}
-use Rattle.corner.proofs.Shifts.ShiftTables.{shifted_consistent, shifted_marks, shifted_stop}
+use Rattle.corner_shifts.proofs.Shifts.ShiftTables.{shifted_consistent, shifted_marks, shifted_stop}
 use Rattle.corner.proofs.corner.Corner.shift.Goals as goal
 
 pub invariant_of-self : goal.invariant_of-self

@@ -3,7 +3,7 @@ use Rattle.corner.specs.Changes.{HasStood}
 use Rattle.corner.specs.Views.{CornerView}
 use Rattle.corner_table.specs.Tables.{lists_of}
 use Rattle.corner_table.specs.Invariants.{view_of}
-use Rattle.corner.proofs.Stays.StoodTables.{has_stood, stood_consistent, stood_names, stood_same_marks}
+use Rattle.corner_shifts.proofs.Stays.StoodTables.{has_stood, stood_consistent, stood_names, stood_same_marks}
 use Rattle.corner.proofs.corner.Corner.stand.Goals as goal
 
 pub invariant_of-self : goal.invariant_of-self

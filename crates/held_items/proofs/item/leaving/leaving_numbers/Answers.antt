@@ -9,12 +9,12 @@ use Rattle.held_items.proofs.item.leaving.leaving_numbers.Goals as goal
 
 pub loop-item-preserved : goal.loop-item-preserved
 loop-item-preserved c = elim c.if-is_leaving.branch [
-  | then-is_leaving+in_ok-push_numbers w ↦ let is : is_leaving c.args.leaver (item_of c.item-item.result) ≡ true = search rules in
+  | then-is_leaving+in_ok-push_numbers w ↦ let is : is_leaving c.args.leaver.now (item_of c.item-item.result) ≡ true = search rules in
       let pushed : c.if-is_leaving.numbers.items ≡ c.loop-item.numbers.items ++ item_numbers (item_of c.item-item.result) = search rules in
-      numbers-go (is_leaving c.args.leaver) c.args.items.now c.loop-item.item-index c.item-item.result c.loop-item.numbers.items c.if-is_leaving.numbers.items c.loop-item-test.true c.item-item.is c.loop-item.invariant is pushed
-  | else-is_leaving w ↦ let is : is_leaving c.args.leaver (item_of c.item-item.result) ≡ false = search rules in
+      numbers-go (is_leaving c.args.leaver.now) c.args.items.now c.loop-item.item-index c.item-item.result c.loop-item.numbers.items c.if-is_leaving.numbers.items c.loop-item-test.true c.item-item.is c.loop-item.invariant is pushed
+  | else-is_leaving w ↦ let is : is_leaving c.args.leaver.now (item_of c.item-item.result) ≡ false = search rules in
       let same : c.if-is_leaving.numbers.items ≡ c.loop-item.numbers.items = search rules in
-      numbers-stay (is_leaving c.args.leaver) c.args.items.now c.loop-item.item-index c.item-item.result c.loop-item.numbers.items c.if-is_leaving.numbers.items c.loop-item-test.true c.item-item.is c.loop-item.invariant is same
+      numbers-stay (is_leaving c.args.leaver.now) c.args.items.now c.loop-item.item-index c.item-item.result c.loop-item.numbers.items c.if-is_leaving.numbers.items c.loop-item-test.true c.item-item.is c.loop-item.invariant is same
 ]
 
 pub push_numbers-requires : goal.push_numbers-requires

@@ -1,5 +1,5 @@
 use Rattle.std.proofs.Common.{ap, arith}
-use Rattle.version_list.specs.Versions.{Versions}
+use Rattle.version_lists.specs.Versions.{Versions}
 use Rattle.held_items.specs.declared.item.Item as declared
 use Rattle.scenes.proofs.First.{first-alike, first-corner, first-history, first-history-kept}
 use Rattle.scenes.proofs.Engines.Additions.{first-counted}

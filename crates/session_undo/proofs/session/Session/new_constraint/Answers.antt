@@ -1,4 +1,4 @@
-use Rattle.std.proofs.Common.{◌≡◌, subst, sym}
+use Rattle.std.proofs.Common.{subst}
 use Rattle.std.proofs.lemmas.Result.{IfOk-weaker}
 use Rattle.constraint_compile.specs.Compiled.{CompiledLine}
 use Rattle.script_text.specs.Directions.{line_in}
@@ -10,17 +10,18 @@ use Rattle.std.specs.Prelude.{All}
 use Rattle.session_undo.specs.State.{State}
 use Rattle.session_undo.specs.Replies.{Reply}
 use Rattle.session_undo.specs.Machine.{TriedConstraint}
-use Rattle.session_undo.specs.Adding.{AddStop, StopStep, NoEnd}
+use Rattle.session_undo.specs.Adding.{AddStop, IsNewLine, StopStep, NoEnd}
 use Rattle.session_undo.proofs.Commands.Steps.{refuses}
 use Rattle.session_undo.proofs.Commands.Chains.{err-map}
 use Rattle.session_undo.proofs.Commands.LineStops.{IsLineOf, MayStopLine, constraint-full, constraint-stopped}
 use Rattle.session_undo.proofs.session.Session.new_constraint.Goals as goal
 
-pub returns-in-Ok-clause-is : goal.returns-in-Ok-clause-is
-returns-in-Ok-clause-is c =
+pub returns-in-Ok-clause-made : goal.returns-in-Ok-clause-made
+returns-in-Ok-clause-made c =
     let is : IsLineOf c.args.self.now (linear_view c.args.line.now) c.in-Ok.compiled =
     subst (λ (s : State). IsLineOf s (linear_view c.args.line.now) c.in-Ok.compiled) c.self.view_is (rw (c.tree-tree.ensures, c.metrics-metrics.ensures, c.next_row-id.ensures.value, c.direction-direction.ensures) at c.in-Ok.ensures.compiled) in
-    IfOk-weaker c.new_line.result (λ new. new.line ≡ c.in-Ok.compiled) (λ new. IsLineOf c.args.self.now (linear_view c.args.line.now) new.line) (λ new same. subst (λ (l : CompiledLine). IsLineOf c.args.self.now (linear_view c.args.line.now) l) (sym same) is) c.new_line.ensures.line
+    IfOk-weaker c.new_line.result (IsNewLine c.args.self.now c.args.group.now c.in-Ok.compiled)
+    (λ new. (compiled : CompiledLine) × IsLineOf c.args.self.now (linear_view c.args.line.now) compiled × IsNewLine c.args.self.now c.args.group.now compiled new) (λ new made. (c.in-Ok.compiled, is, made)) c.new_line.ensures.made
 
 pub returns-in-Ok-clause-refused : goal.returns-in-Ok-clause-refused
 returns-in-Ok-clause-refused c =

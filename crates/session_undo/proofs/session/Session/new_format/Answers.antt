@@ -1,4 +1,4 @@
-use Rattle.std.proofs.Common.{◌≡◌, ◌+◌, arith, length, subst, sym}
+use Rattle.std.proofs.Common.{◌≡◌, ◌+◌, arith, length, subst}
 use Rattle.std.proofs.lemmas.List.{length-map}
 use Rattle.std.proofs.lemmas.Result.{IfOk-weaker}
 use Rattle.view_tree.specs.Views.{IsTree}
@@ -10,17 +10,18 @@ use Rattle.held_items.proofs.HeldRows.NextLines.{format-next}
 use Rattle.session_undo.specs.State.{State}
 use Rattle.session_undo.specs.Replies.{Reply}
 use Rattle.session_undo.specs.Machine.{TriedFormat}
-use Rattle.session_undo.specs.Adding.{AddStop, StopStep, NoEnd}
+use Rattle.session_undo.specs.Adding.{AddStop, IsNewLine, StopStep, NoEnd}
 use Rattle.session_undo.proofs.Commands.Steps.{refuses}
 use Rattle.session_undo.proofs.Commands.Chains.{err-map}
 use Rattle.session_undo.proofs.Commands.LineStops.{IsTextOf, MayStopText, format-full, format-stopped, text_count}
 use Rattle.session_undo.proofs.session.Session.new_format.Goals as goal
 
-pub returns-in-Ok-clause-is : goal.returns-in-Ok-clause-is
-returns-in-Ok-clause-is c =
+pub returns-in-Ok-clause-made : goal.returns-in-Ok-clause-made
+returns-in-Ok-clause-made c =
     let is : IsTextOf c.args.self.now c.args.align (meaning c.args.format.now) c.in-Ok.compiled =
     subst (λ (s : State). IsTextOf s c.args.align (meaning c.args.format.now) c.in-Ok.compiled) c.self.view_is (rw (c.tree-tree.ensures, c.metrics-metrics.ensures, c.next_row.ensures.value, c.direction-direction.ensures) at c.in-Ok.ensures.compiled) in
-    IfOk-weaker c.new_line.result (λ new. new.line ≡ c.in-Ok.compiled) (λ new. IsTextOf c.args.self.now c.args.align (meaning c.args.format.now) new.line) (λ new same. subst (λ (l : CompiledLine). IsTextOf c.args.self.now c.args.align (meaning c.args.format.now) l) (sym same) is) c.new_line.ensures.line
+    IfOk-weaker c.new_line.result (IsNewLine c.args.self.now c.args.group.now c.in-Ok.compiled)
+    (λ new. (compiled : CompiledLine) × IsTextOf c.args.self.now c.args.align (meaning c.args.format.now) compiled × IsNewLine c.args.self.now c.args.group.now compiled new) (λ new made. (c.in-Ok.compiled, is, made)) c.new_line.ensures.made
 
 pub returns-in-Ok-clause-refused : goal.returns-in-Ok-clause-refused
 returns-in-Ok-clause-refused c =

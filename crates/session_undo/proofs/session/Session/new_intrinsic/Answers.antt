@@ -2,7 +2,7 @@ use Rattle.std.proofs.Common.{ℕ, sym, subst}
 use Rattle.std.proofs.lemmas.Result.{IfOk-weaker}
 use Rattle.span_text.specs.Objects.{object_view}
 use Rattle.view_tree.specs.Views.{view_named}
-use Rattle.held_items.specs.declared.item.intrinsic.NewIntrinsic.{NewIntrinsic}
+use Rattle.session_undo.specs.declared.wishes.NewIntrinsic.{NewIntrinsic}
 use Rattle.session_undo.specs.Adding.{IsFreeIntrinsic, IsIntrinsicFor, NoEnd, SizeStep}
 use Rattle.session_undo.specs.Machine.{TriedSize}
 use Rattle.session_undo.specs.Replies.{Reply}

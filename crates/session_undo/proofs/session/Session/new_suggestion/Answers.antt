@@ -2,7 +2,7 @@ use Rattle.std.proofs.Common.{ℕ, sym, subst}
 use Rattle.std.proofs.lemmas.Result.{IfOk-weaker}
 use Rattle.span_text.specs.Objects.{object_view}
 use Rattle.view_tree.specs.Views.{view_named}
-use Rattle.held_items.specs.declared.item.suggesting.NewSuggestion.{NewSuggestion}
+use Rattle.session_undo.specs.declared.wishes.NewSuggestion.{NewSuggestion}
 use Rattle.session_undo.specs.Adding.{IsFreeSuggestion, IsSuggestionFor, NoEnd, SuggestStep}
 use Rattle.session_undo.specs.Machine.{TriedSuggest}
 use Rattle.session_undo.specs.Replies.{Reply}

@@ -1,5 +1,0 @@
-pub mod Examples
-pub mod States
-pub mod Bounds
-pub mod Room
-pub mod Laws

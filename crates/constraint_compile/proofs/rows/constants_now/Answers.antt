@@ -1,6 +1,0 @@
-use Rattle.constraint_compile.proofs.rows.constants_now.Goals as goal
-
-pub returns-in-None-clause-stop : goal.returns-in-None-clause-stop
-returns-in-None-clause-stop c =
-    let no = rw c.in-None.is at c.in_ok-constants.ensures.none in
-    rw c.forms.ensures.rows at no

@@ -1,7 +1,0 @@
-use Rattle.std.proofs.Common.{take, map}
-use Rattle.constraint_compile.specs.Compiled.{AreConstantsNow}
-use Rattle.constraint_compile.specs.Inside.{form_view}
-use Rattle.constraint_compile.proofs.rows.constants_of.Given as goal
-
-abbrev pub invariant-loop-form : goal.invariant-loop-form
-invariant-loop-form l = AreConstantsNow l.metrics (map form_view (take l.form-index l.forms)) l.constants.items

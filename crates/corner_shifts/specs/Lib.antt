@@ -1,0 +1,3 @@
+pub mod Stood
+pub mod Shifting
+pub mod Astray

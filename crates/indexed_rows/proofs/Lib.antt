@@ -1,4 +1,0 @@
-pub mod Listed
-pub mod Columns
-pub mod Relisting
-pub mod Indexing

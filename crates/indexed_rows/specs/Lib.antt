@@ -1,4 +1,0 @@
-pub mod Indexes
-pub mod Lists
-pub mod Matrices
-pub mod Walks

@@ -1,0 +1,58 @@
+// The numbers of limits.
+use compile_parts::ADDEND_LIMIT;
+use edge_io::LINE_LIMIT;
+use name_tables::{METRIC_LIMIT, NAME_LIMIT};
+use problem_core::{REQUIRED, TERM_LIMIT, WEIGHT_LIMIT};
+use session_undo::{BUDGET_LIMIT, Limits};
+use tell_mend::{Reader, digits_behind};
+use view_tree::DEPTH_LIMIT;
+
+// The number that stands for `{}` in what is said of a cause, where a session has these limits.
+fn limit_of(words: &str, limits: &Limits) -> usize {
+    match words {
+        "limit lines" => limits.lines,
+        "limit rows" => limits.rows,
+        "limit views" => limits.views,
+        "limit depth" => DEPTH_LIMIT as usize,
+        "limit metrics" => METRIC_LIMIT,
+        "limit line" => LINE_LIMIT,
+        "limit name" => NAME_LIMIT,
+        "limit terms" => ADDEND_LIMIT,
+        "limit attributes" => TERM_LIMIT,
+        "limit budget" => digits_behind(BUDGET_LIMIT as i64),
+        "kind priority" => REQUIRED as usize,
+        _ => WEIGHT_LIMIT as usize,
+    }
+}
+
+// Appends the number: with a comma in front of its last three digits, unless lines write such numbers.
+fn put_limit(reader: &mut Reader, out: &mut Vec<u8>, words: &str, number: usize) {
+    let rest = number % 1000;
+    if number < 1000 || words.starts_with("kind") {
+        return reader.put_count(out, number);
+    }
+    reader.put_count(out, (number / 1000));
+    reader.put(
+        out,
+        if rest < 10 {
+            b",00"
+        } else if rest < 100 {
+            b",0"
+        } else {
+            b","
+        },
+    );
+    reader.put_count(out, rest);
+}
+
+/// Appends what is said of the cause that these words name, with the number of its limit.
+pub fn put_why(reader: &mut Reader, out: &mut Vec<u8>, words: &str, why: &str, limits: &Limits) {
+    match why.split_once("{}") {
+        Some((front, rest)) => {
+            reader.put(out, front.as_bytes());
+            put_limit(reader, out, words, limit_of(words, limits));
+            reader.put(out, rest.as_bytes());
+        }
+        None => reader.put(out, why.as_bytes()),
+    }
+}

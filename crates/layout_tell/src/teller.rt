@@ -1,0 +1,188 @@
+// The lines of a script, answered, and what is said of them.
+ghost use Rattle.std.specs.Prelude.{⊤};
+
+use crate::asked::Asked;
+use crate::finding::Finding;
+use crate::owners::Owners;
+use crate::problem::put_problem;
+use crate::telling::Telling;
+use edge_io::{LINE_LIMIT, Piece, Sink, StdSource, put_all};
+use frac_core::OutOfMemory;
+use layout_cli::{Responder, Status};
+use line_by_line::{AnswerStop, Answerer, ScriptStop, answer_script};
+use name_tables::LimitWord;
+use reply_texts::reply_text;
+use script_text::Version;
+use session_undo::Refusal;
+use std::alloc::Global;
+use tell_mend::{Reader, line_at};
+
+// What answers the lines of a script, and says what there is to be said of them.
+#[derive(Drop)]
+struct Teller<'s> {
+    responder: Responder,
+    owners: Owners,
+    asked: Asked,
+    script: &'s [u8],
+    // The number of the latest line, how many had a reply, and how many were refused.
+    number: usize,
+    count: usize,
+    refused: usize,
+    // Whether the line came whose problem is asked for, and has one.
+    is_found: bool,
+    is_printed: bool,
+    // The latest reply, and what is said of it.
+    reply: Vec<u8>,
+    out: Vec<u8>,
+}
+
+const NO_LINE: &[u8] = b"no problem: the script has no line of this number that gets a reply\n";
+
+impl<'s> Teller<'s> {
+    // No line came.
+    fn new(alloc: Global, asked: Asked, script: &'s [u8]) -> Result<Teller<'s>, OutOfMemory> {
+        let responder = Responder::new(alloc)?;
+        let next = responder.session().state().next_row();
+        Ok(Teller {
+            responder,
+            owners: Owners::new(alloc, next),
+            asked,
+            script,
+            number: 0,
+            count: 0,
+            refused: 0,
+            is_found: false,
+            is_printed: false,
+            reply: Vec::new(alloc),
+            out: Vec::new(alloc),
+        })
+    }
+
+    // Answers a line, and says whether the reply is a refusal.
+    fn reply_to(&mut self, line: &[u8]) -> Result<bool, OutOfMemory> {
+        self.reply.clear();
+        if line.len() <= LINE_LIMIT {
+            return self.responder.answer(line, &mut self.reply);
+        }
+        self.responder.long();
+        let refusal = Err(Refusal::Limit(LimitWord::Line));
+        reply_text(self.responder.session(), &refusal, &mut self.reply)?;
+        Ok(true)
+    }
+
+    // Says what there is to be said of a line that was answered.
+    fn tell(&mut self, line: &[u8]) -> Result<(), OutOfMemory> {
+        let session = self.responder.session();
+        let mut told = Telling {
+            reader: Reader::new(*self.out.allocator(), session.version()),
+            finding: Finding::new(*self.out.allocator()),
+            session,
+            owners: &self.owners,
+            script: self.script,
+            number: self.number,
+            line,
+            reply: &self.reply,
+        };
+        told.set_all();
+        told.put(self.asked, &mut self.out)
+    }
+
+    // Prints the problem of a line that was answered, or why there is none.
+    fn print(&mut self, line: &[u8]) -> Result<(), OutOfMemory> {
+        let session = self.responder.session();
+        let mut reader = Reader::new(*self.out.allocator(), session.version());
+        self.is_found = true;
+        self.is_printed = put_problem(&mut reader, &mut self.out, session, line, &self.reply);
+        reader.done()
+    }
+
+    // Does with a line what is asked for. One that gets no reply has nothing to tell.
+    fn take(&mut self, line: &[u8]) -> Result<(), OutOfMemory> {
+        let is_refused = self.reply_to(line)?;
+        if self.reply.is_empty() {
+            return Ok(());
+        }
+        self.count = self.count.saturating_add(1);
+        self.refused = self.refused.saturating_add(is_refused as usize);
+        match self.asked {
+            Asked::Problem(wanted) if wanted == self.number => self.print(line)?,
+            Asked::Problem(_) => (),
+            _ => self.tell(line)?,
+        }
+        let next = self.responder.session().state().next_row();
+        self.owners.take(self.number, next)
+    }
+
+    // Puts what there is to be said when all lines are answered: to people how many were refused.
+    fn put_end(&mut self) -> Result<(), OutOfMemory> {
+        let mut reader = Reader::new(*self.out.allocator(), Version::One);
+        self.out.clear();
+        match self.asked {
+            Asked::People => {
+                reader.put_count(&mut self.out, self.count);
+                reader.put(&mut self.out, b" lines, ");
+                reader.put_count(&mut self.out, self.refused);
+                reader.put(&mut self.out, b" refused\n");
+            }
+            Asked::Problem(_) if !self.is_found => reader.put(&mut self.out, NO_LINE),
+            _ => (),
+        }
+        reader.done()
+    }
+
+    // Ends with how many lines were refused, and gives the status.
+    fn end<K: Sink>(&mut self, sink: &mut K) -> Status {
+        if self.put_end().is_err() {
+            return Status::OutOfMemory;
+        }
+        let is_done = match self.asked {
+            Asked::Problem(_) => self.is_printed,
+            _ => self.refused == 0,
+        };
+        match put_all(sink, &self.out) {
+            Ok(()) if is_done => Status::Done,
+            Ok(()) => Status::Refused,
+            Err(_) => Status::WriteFault,
+        }
+    }
+
+    // Does with each line what is asked for, and gives the status.
+    fn run<K: Sink>(&mut self, alloc: Global, sink: &mut K) -> Status {
+        let mut source = StdSource::new(self.script);
+        match answer_script(alloc, self, &mut source, sink) {
+            Ok(_) => self.end(sink),
+            Err(ScriptStop::ReadFault) => Status::ReadFault,
+            Err(ScriptStop::TooLong) => Status::TooLong,
+            Err(ScriptStop::WriteFault) => Status::WriteFault,
+            Err(ScriptStop::OutOfMemory) => Status::OutOfMemory,
+        }
+    }
+}
+
+impl Answerer for Teller<'_> {
+    ghost answers = { λ _ _ _ _ _. ⊤ };
+
+    fn answer<K: Sink>(&mut self, piece: Piece<'_>, sink: &mut K) -> Result<bool, AnswerStop> {
+        self.out.clear();
+        self.number = self.number.saturating_add(1);
+        match piece {
+            Piece::Line(line) => self.take(line)?,
+            Piece::Long => self.take(line_at(self.script, self.number))?,
+        }
+        put_all(sink, &self.out)?;
+        Ok(true)
+    }
+}
+
+/// Does with a script what is asked for, and gives the status.
+pub fn tell<K: Sink>(
+    alloc: Global,
+    asked: Asked,
+    script: &[u8],
+    sink: &mut K,
+) -> Result<Status, OutOfMemory> {
+    let mut teller = Teller::new(alloc, asked, script)?;
+    let status = teller.run(alloc, sink);
+    drop(teller);
+    Ok(status)
+}

@@ -1,4 +1,0 @@
-pub mod ByNumber
-pub mod Searches
-pub mod Edits
-pub mod Packs

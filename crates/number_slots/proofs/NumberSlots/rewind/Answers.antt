@@ -1,5 +1,0 @@
-use Rattle.number_slots.proofs.Edits.{rewound}
-use Rattle.number_slots.proofs.NumberSlots.rewind.Goals as goal
-
-pub invariant_of-self : goal.invariant_of-self
-invariant_of-self c = rewound c.self.inside.kept c.rewind.new.self c.self.invariant c.rewind.ensures.items c.rewind.ensures.before

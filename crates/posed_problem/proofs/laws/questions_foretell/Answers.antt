@@ -1,8 +1,0 @@
-use Rattle.posed_problem.proofs.Questions.{core-not-accepted, solvable-not-refused}
-use Rattle.posed_problem.proofs.laws.questions_foretell.Goals as goal
-
-pub returns-clause-solvable : goal.returns-clause-solvable
-returns-clause-solvable c = solvable-not-refused
-
-pub returns-clause-core : goal.returns-clause-core
-returns-clause-core c = core-not-accepted

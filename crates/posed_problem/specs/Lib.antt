@@ -1,3 +1,0 @@
-pub mod Definite
-pub mod Laws
-pub mod Questions

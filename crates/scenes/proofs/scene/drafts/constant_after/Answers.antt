@@ -1,6 +1,0 @@
-use Rattle.held_items.proofs.Constants.ShiftedRows.{next-either}
-use Rattle.scenes.proofs.scene.drafts.constant_after.Goals as goal
-
-pub loop-change-preserved : goal.loop-change-preserved
-loop-change-preserved c =
-    next-either c.args.to.now c.loop-change.change-index c.change-item.result c.args.row.now c.loop-change.constant c.constant_past-constant.result c.loop-change-test.true c.change-item.is c.loop-change.invariant c.constant_past-constant.ensures.own c.constant_past-constant.ensures.other

@@ -1,7 +1,0 @@
-use Rattle.scenes.specs.Steps.{from_shifts}
-use Rattle.scenes.proofs.Engines.Reached.{leads-to}
-use Rattle.scenes.proofs.scene.solving.take_constants.Goals as goal
-
-pub returns-in-Ok-clause-run : goal.returns-in-Ok-clause-run
-returns-in-Ok-clause-run c =
-    leads-to c.shift.new.self _ (from_shifts c.args.engine.now) c.args.budget c.show_layout.ensures.layout c.in-Ok.ensures.done c.in-Ok.ensures.path

@@ -1,0 +1,10 @@
+pub mod UndoLemmas
+pub mod SinceLemmas
+pub mod ByNumber
+pub mod Searches
+pub mod Edits
+pub mod Packs
+pub mod Listed
+pub mod Columns
+pub mod Relisting
+pub mod Indexing
