@@ -1,30 +1,5 @@
--- What the changes of a corner answer.
-use Rattle.std.specs.Prelude.{◌≡◌, List, [], ◌∷◌, map, All}
-use Rattle.problem_core.specs.Changes.Stops.{TableStop}
-use Rattle.frac_core.specs.declared.memory.Stop.TheVariants.{Refused, OutOfMemory as NoMemory}
-use Rattle.problem_core.specs.Corners.{attr_column}
-use Rattle.corner.specs.Views.{CornerView, HasValueAt, Scene}
-pub use Rattle.corner_table.specs.Views.{HasNoNegative}
-pub use Rattle.corner_exchange.specs.Stops.{IsUnfitStop}
-pub use Rattle.corner_joins.specs.Stops.{AllSumsFit, FromAdded, IsAddStop}
-
--- the scene of now
-abbrev pub scene_of : CornerView → Scene
-scene_of v = record { problem = v.problem; marks = v.marks }
-
--- the scene is that of the newest mark again
-pub record IsRewound (old new : CornerView) : Type 0 where
-  pub before : new.before ≡ old.before
-  pub scene : (rest : List Scene) × (old.before ≡ scene_of new ∷ rest)
-  pub candidates : new.candidates ≡ []
-
--- the same corner, but after want of memory that of the newest mark
-abbrev pub IsAsBefore : CornerView → CornerView → TableStop → Type 0
-IsAsBefore old new (Refused quantity) = new ≡ old
-IsAsBefore old new NoMemory = IsRewound old new
-
--- the problems have the same rows and attributes, and the new one's stays stand at the old one's values
-pub record HasStood (old new : CornerView) : Type 0 where
-  pub rows : new.problem.rows ≡ old.problem.rows
-  pub attrs : map (λ s. s.attr) new.problem.stays ≡ map (λ s. s.attr) old.problem.stays
-  pub targets : All (λ s. HasValueAt old.problem old.marks (attr_column s.attr) s.target) new.problem.stays
+-- What the changes of a corner answer: words passed on.
+pub use Rattle.corner_view.specs.Seen.{HasNoNegative}
+pub use Rattle.corner_view.specs.Stops.{IsUnfitStop}
+pub use Rattle.corner_view.specs.AddStops.{AllSumsFit, FromAdded, IsAddStop}
+pub use Rattle.corner_view.specs.Changes.{scene_of, IsRewound, IsAsBefore, HasStood}

@@ -56,6 +56,7 @@
 
 mod astray;
 mod corner;
+mod door;
 mod fronting;
 mod known;
 mod leaving;

@@ -9,7 +9,7 @@ ghost use Rattle.problem_core.specs.Kept.{IsRow};
 ghost use Rattle.problem_core.specs.declared.parts.RowName as row_type;
 ghost use Rattle.problem_core.specs.declared.stops.What as what_type;
 ghost use Rattle.corner_lines.specs.Shifts.{has_constant};
-ghost use Rattle.corner_table.specs.declared.table.Owner.TheVariants.{Line as LineSlot};
+ghost use Rattle.corner_view.specs.declared.types.Owner.TheVariants.{Line as LineSlot};
 ghost use Rattle.corner_table.specs.declared.table.TheConstants.{LEVELS};
 ghost use Rattle.corner_table.specs.Histories.{AreAlike, lists_before};
 ghost use Rattle.corner_table.specs.Kept.{AreSlots, IsKept, IsSlot};

@@ -29,9 +29,9 @@ use Rattle.corner_laws.proofs.PathEnds.Refuting.{constant_there}
 use Rattle.corner_laws.proofs.ZeroColumns.{scales-above}
 use Rattle.corner_lines.specs.Fronts.{constantless}
 use Rattle.corner_lines.specs.Shifts.{AreSeenAlike}
-use Rattle.corner.specs.Views.{IsKeptCorner}
-use Rattle.corner.proofs.Stays.StoodColumns.{multipliers_seen}
-use Rattle.corner.proofs.Stays.StoodLines.{each_seen}
+use Rattle.corner_view.specs.Views.{IsKeptCorner}
+use Rattle.corner_view.proofs.StoodColumns.{multipliers_seen}
+use Rattle.corner_view.proofs.StoodLines.{each_seen}
 use Rattle.corner_ends.specs.Shares.{AreRequiredTimes, AreShares, IsDivisor, IsGreatest}
 use Rattle.corner_ends.proofs.ShownTimes.{shown_conflict}
 use Rattle.corner_ends.proofs.Signs.{columns_alike}

@@ -1,7 +1,7 @@
 // The attributes that have other values than at the newest mark.
 ghost use Rattle.std.specs.Prelude.{◌≡◌, ◌⊎◌, ◌<◌, ℕ, [], All, Contains, true, false, length, IfOk, OnOk};
 ghost use Rattle.std.specs.Prelude.{IfNone, IfSome};
-ghost use Rattle.corner_table.specs.declared.table.Owner.TheVariants as owner_type;
+ghost use Rattle.corner_view.specs.declared.types.Owner.TheVariants as owner_type;
 ghost use Rattle.corner_table.specs.Histories.{AreAlike};
 ghost use Rattle.corner_table.specs.Kept.{AreSlots};
 ghost use Rattle.corner_table.specs.Moves.{AreMoved, HasMoved, HasStayed, HasValue, Shows, marked_of};

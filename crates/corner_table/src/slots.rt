@@ -9,7 +9,7 @@ ghost use Rattle.problem_core.specs.declared.parts.RowName.TheVariants as row_na
 ghost use Rattle.problem_core.specs.declared.parts.Level.TheVariants as level_names;
 ghost use Rattle.problem_core.specs.declared.parts.Side as side_type;
 ghost use Rattle.problem_core.specs.declared.stops.What.TheVariants as what_type;
-ghost use Rattle.corner_table.specs.declared.table.Owner.TheVariants as owner_type;
+ghost use Rattle.corner_view.specs.declared.types.Owner.TheVariants as owner_type;
 ghost use Rattle.corner_table.specs.declared.table.TheConstants.{LEVELS};
 ghost use Rattle.corner_table.specs.Tables as tables;
 ghost use Rattle.corner_table.specs.Tables.{IsSign, entry, lists_of, problem_of};

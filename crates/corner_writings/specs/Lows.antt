@@ -13,23 +13,7 @@ use Rattle.problem_core.specs.Corners.{IsIn, place}
 use Rattle.corner_table.specs.Views.{HasValueAt, IsNamed, IsOutside, MovesWith}
 use Rattle.corner_table.specs.Tables.{Lists, problem_of, slot_at, standing_at}
 use Rattle.corner_table.specs.Invariants.{name_of}
-
--- the mark's value is not negative
-abbrev pub HasValueUp : Problem → List Mark → Mark → Type 0
-HasValueUp p at m = (f : Fraction) × (0 < f.den) × HasValueAt p at (place m) f × (pos 0 ≤ℤ f.num)
-
--- the line is listed, or the value of the inside mark is not negative
-abbrev pub IsListedIfLow : Problem → List Mark → List RowName → Mark → Type 0
-IsListedIfLow p at names m = Contains names m.row ⊎ HasValueUp p at m
-
--- the row's inside mark and those that move with its outside marks are of listed lines, if their values are
--- negative
-pub record ListsLow (p : Problem) (at : List Mark) (row : RowName) (old new : List RowName) : Type 0 where
-  pub keeps : (name : RowName) → Contains old name → Contains new name
-  pub named : All (IsNamed p) old → All (IsNamed p) new
-  pub own : (m : Mark) → m.row ≡ row → IsIn (place m) at → IsListedIfLow p at new m
-  pub moved : (side : Side) → IsOutside p at (record { row = row; side = side }) → (m : Mark)
-      → MovesWith p at (record { row = row; side = side }) (MarkOf m) → IsListedIfLow p at new m
+pub use Rattle.corner_view.specs.Lows.{HasValueUp, IsListedIfLow, ListsLow}
 
 -- ---- by slots
 

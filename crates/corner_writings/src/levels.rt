@@ -33,15 +33,9 @@ use corner_table::{
     line_slot, own_of, own_of_level, priority_at, priority_level, share, side_at, slot_at, unit_of,
     value_at,
 };
+pub use corner_view::Front;
 use frac_core::{Frac, OutOfMemory};
 use problem_core::{Level, Mark, Side};
-
-/// The first level at which a mark's reduced cost is not 0, and this cost.
-#[derive(Clone, Copy, Debug, PartialEq, Eq)]
-pub struct Front {
-    pub level: Level,
-    pub reduced: i64,
-}
 
 /// The scale of the level at a slot.
 pub fn scale_at(table: &Table, l: u32) -> i64

@@ -21,14 +21,14 @@ use Rattle.corner_laws.proofs.RunSteps.DualRuns.{other_mark_grows}
 use Rattle.corner_laws.proofs.MarkWritings.LowestForms.{column_has_writing, marks_are_fixed}
 use Rattle.corner_laws.proofs.WrittenValues.{contains_each}
 use Rattle.corner_laws.proofs.ZeroColumns.{not-in}
-use Rattle.corner.specs.Views.{HasValueAt, IsKeptCorner, IsMarkOf, IsNamed}
+use Rattle.corner_view.specs.Views.{HasValueAt, IsKeptCorner, IsMarkOf, IsNamed}
 use Rattle.corner_ends.proofs.Marks.{in_mark}
 use Rattle.dual_run.specs.Leaving.{AreLowLines, HasNoLow, IsLow, MayLeave}
-use Rattle.corner_writings.proofs.Readings.LowLines.{up_or_low}
+use Rattle.corner_view.proofs.Facts.{up_or_low}
 use Rattle.corner_lines.proofs.ColumnsBelow.{low_from}
 use Rattle.frac_core.proofs.Numbers.{one-times as times-one, up-times}
 use Rattle.frac_core.proofs.Products.{above_zero as den-up}
-use Rattle.corner_table.proofs.Readings.ReadFacts.{mark_named, named_in as named_mark}
+use Rattle.corner_view.proofs.Facts.{mark_named, named_in as named_mark}
 use Rattle.problem_core.proofs.Marks.{in-list as in_list}
 
 -- ---- signs

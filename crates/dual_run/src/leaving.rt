@@ -2,10 +2,10 @@
 ghost use Rattle.std.specs.Prelude.{◌≡◌, IfSome, IfNone, OnOk};
 ghost use Rattle.problem_core.specs.Corners.{NoNegativeValue};
 ghost use Rattle.corner_laws.specs.Runs.{other_mark};
-ghost use Rattle.corner.specs.Views.{IsNamed};
+ghost use Rattle.corner_view.specs.Views.{IsNamed};
 ghost use Rattle.dual_run.specs.Leaving.{AreLowLines, HasNoLow, IsLow, ListsSwapped};
 
-use corner::Corner;
+use corner_view::{Corner, Tableau};
 use frac_core::OutOfMemory;
 use problem_core::{Mark, RowName, Side};
 
@@ -24,7 +24,7 @@ pub(crate) fn other(mark: Mark) -> Mark
 }
 
 /// The mark of the line whose value is negative.
-pub fn low_of(c: &Corner, row: RowName) -> Option<Mark>
+pub fn low_of<T: Tableau>(c: &Corner<T>, row: RowName) -> Option<Mark>
     requires { IsNamed c.now.problem row }
     ensures some { IfSome result (IsLow c.now.problem c.now.marks) }
     ensures row { IfSome result (λ mark. mark.row ≡ row) }
@@ -35,7 +35,7 @@ pub fn low_of(c: &Corner, row: RowName) -> Option<Mark>
 }
 
 /// A mark with a negative value. Lines without one are taken off the list, whose last one is looked at first.
-pub(crate) fn leaving(c: &Corner, low: &mut Vec<RowName>) -> Option<Mark>
+pub(crate) fn leaving<T: Tableau>(c: &Corner<T>, low: &mut Vec<RowName>) -> Option<Mark>
     requires { AreLowLines c.now.problem c.now.marks low.old.items }
     ensures low { AreLowLines c.now.problem c.now.marks low.new.items }
     ensures some { IfSome result (IsLow c.now.problem c.now.marks) }
@@ -55,8 +55,8 @@ pub(crate) fn leaving(c: &Corner, low: &mut Vec<RowName>) -> Option<Mark>
 /// Lists the lines whose values are negative after the one mark has entered for the other: the entering
 /// one's, and those of the inside marks that move with the leaving one. Where both are of one line no other
 /// value has changed.
-pub(crate) fn list_swapped(
-    c: &Corner,
+pub(crate) fn list_swapped<T: Tableau>(
+    c: &Corner<T>,
     low: &mut Vec<RowName>,
     enter: RowName,
     leave: RowName,

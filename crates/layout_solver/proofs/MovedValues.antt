@@ -7,9 +7,9 @@ use Rattle.problem_core.specs.declared.parts.Stay.{Stay}
 use Rattle.problem_core.specs.Layout.{HasStay}
 use Rattle.problem_core.specs.Corners.{attr_column}
 use Rattle.problem_core.proofs.Forms.{each-both, each-impl}
-use Rattle.corner.specs.Views.{CornerView, HasValueAt, HasValueIn, Scene}
-use Rattle.corner.specs.Changes.{scene_of}
-use Rattle.corner_table.proofs.Readings.MoveFacts.{moved_by}
+use Rattle.corner_view.specs.Views.{CornerView, HasValueAt, HasValueIn, Scene}
+use Rattle.corner_view.specs.Changes.{scene_of}
+use Rattle.corner_view.proofs.Facts.{moved_by}
 use Rattle.layout_solver.specs.Engines.{HaveValues, IsSolved, solution_at, solutions_at}
 use Rattle.layout_solver.specs.Layouts.{IsKeptSolution}
 use Rattle.layout_solver.specs.Moves.{AreMovedSince, HasValueOf, Shows}

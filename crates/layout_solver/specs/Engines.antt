@@ -2,8 +2,8 @@
 use Rattle.std.specs.Prelude.{◌≡◌, ℕ, List, [], ◌∷◌, map, All}
 use Rattle.frac_core.specs.Fraction.{Fraction, IsLowest}
 use Rattle.problem_core.specs.Corners.{IsCorner}
-use Rattle.corner.specs.Views.{CornerView, Scene}
-use Rattle.corner.specs.Changes.{scene_of}
+use Rattle.corner_view.specs.Views.{CornerView, Scene}
+use Rattle.corner_view.specs.Changes.{scene_of}
 use Rattle.layout_solver.specs.Layouts.{AreValuesAt, IsKeptSolution, Layout, Solution}
 
 -- the values of the attributes at the corner, and no others

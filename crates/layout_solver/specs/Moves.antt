@@ -2,7 +2,7 @@
 use Rattle.std.specs.Prelude.{◌≡◌, ℕ, Any}
 use Rattle.frac_core.specs.Fraction.{Fraction}
 use Rattle.layout_solver.specs.Layouts.{Solution}
-pub use Rattle.corner.specs.Views.{Shows, HasMoved, HasStayed, AreMoved, AreMovedSince}
+pub use Rattle.corner_view.specs.Views.{Shows, HasMoved, HasStayed, AreMoved, AreMovedSince}
 
 -- the attribute has this value
 abbrev pub HasValueOf : Solution → ℕ → Fraction → Type 0

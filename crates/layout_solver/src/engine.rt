@@ -15,8 +15,8 @@ ghost use Rattle.certificates.specs.Accepted.{IsCertified};
 ghost use Rattle.certificates.specs.Errors.{IsErrorAt, IsLevelCost};
 ghost use Rattle.certificates.specs.OwnLevels.{IsOwnBest};
 ghost use Rattle.corner_lines.specs.Shifts.{with_constant};
-ghost use Rattle.corner.specs.Changes.{FromAdded, scene_of};
-ghost use Rattle.corner.specs.Shifts.Shifting.{IsNear};
+ghost use Rattle.corner_view.specs.Changes.{FromAdded, scene_of};
+ghost use Rattle.corner_view.specs.Changes.{IsNear};
 ghost use Rattle.corner_ends.specs.Runs.{FromHere, IsRun};
 ghost use Rattle.version_list.specs.declared.TheConstants.{VERSION_LIMIT};
 ghost use Rattle.layout_solver.specs.Layouts.{AreApart, AreBest, IsBestValue, IsKeptLayout};
@@ -38,7 +38,7 @@ use crate::shifting::alter;
 use crate::trying::{TrialStop, pushed, tried};
 use cert_core::{Best, RunStop};
 use certificates::{certificate, error};
-use corner::Corner;
+use corner_view::{Corner, Tableau};
 use frac_core::{Frac, OutOfMemory, Wide};
 use problem_core::{Level, Row, Stay};
 use std::alloc::Global;
@@ -53,14 +53,14 @@ pub struct Change {
 
 /// A problem with its best values, and the corner at which they stand, with earlier ones.
 #[derive(Drop)]
-pub struct Engine {
-    corner: Corner,
+pub struct Engine<T: Tableau> {
+    corner: Corner<T>,
     alloc: Global,
     ghost values: { HasValues (scene_of corner) } by { one_list (scene_of corner) },
     ghost earlier: { HaveValues corner.before } by { lists_are_one corner.before },
 }
 
-impl Model for Engine {
+impl<T: Tableau> Model for Engine<T> {
     ghost use Rattle.layout_solver.specs.Layouts.{Layout};
     ghost use Rattle.layout_solver.specs.Engines.{IsSolved, layout_of};
 
@@ -71,9 +71,9 @@ impl Model for Engine {
     ghost invariant = { λ e. IsSolved e.corner e.values.0 e.earlier };
 }
 
-impl Engine {
+impl<T: Tableau> Engine<T> {
     /// The engine of no attribute and no row.
-    pub fn new(alloc: Global) -> Result<Engine, OutOfMemory>
+    pub fn new(alloc: Global) -> Result<Engine<T>, OutOfMemory>
         ensures { IfOk result (λ e. e ≡ record {
           problem = record { rows = []; stays = [] };
           values = [];

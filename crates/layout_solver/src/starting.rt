@@ -4,21 +4,21 @@ ghost use Rattle.problem_core.specs.Layout as layout;
 ghost use Rattle.problem_core.specs.Kept.{IsWhole};
 ghost use Rattle.problem_core.specs.Corners.{NoNegativeValue};
 ghost use Rattle.cert_core.specs.Stops.{IsStopOf};
-ghost use Rattle.corner.specs.Changes.{FromAdded};
+ghost use Rattle.corner_view.specs.Changes.{FromAdded};
 ghost use Rattle.corner_ends.specs.Runs.{HasEnded};
 ghost use Rattle.layout_solver.specs.Starts.{HasAdded, IsMarkedHere, as_problem};
 ghost use Rattle.layout_solver.specs.Trials.{AreLed, IsEachStop, IsJoinStop, IsLeadStop};
 
 use crate::changing::join;
 use cert_core::RunStop;
-use corner::Corner;
+use corner_view::{Corner, Tableau};
 use frac_core::OutOfMemory;
 use primal_run::settle;
 use problem_core::{Row, Stay};
 use std::alloc::Global;
 
 // Adds the attributes of these stays at their targets.
-fn add_stays(c: &mut Corner, stays: &[Stay]) -> Result<(), OutOfMemory>
+fn add_stays<T: Tableau>(c: &mut Corner<T>, stays: &[Stay]) -> Result<(), OutOfMemory>
     requires marked { 0 < length c.old.before }
     requires new { c.old.problem ≡ as_problem [] [] }
     requires whole { IsWhole (as_problem [] stays.now) }
@@ -34,9 +34,9 @@ fn add_stays(c: &mut Corner, stays: &[Stay]) -> Result<(), OutOfMemory>
 }
 
 // Gives the corner of nothing these stays and rows, goes on to the best corner, and marks it.
-fn fill(
+fn fill<T: Tableau>(
     alloc: Global,
-    c: &mut Corner,
+    c: &mut Corner<T>,
     stays: &[Stay],
     rows: &[Row],
     budget: u64,
@@ -64,7 +64,7 @@ fn fill(
 /// have joined, each with its mark that isn't negative at the targets of the stays.
 ///
 /// The stops are those of `Engine::add` on an engine that holds nothing but these attributes at the targets.
-pub fn started(alloc: Global, stays: &[Stay], rows: &[Row], budget: u64) -> Result<Corner, RunStop>
+pub fn started<T: Tableau>(alloc: Global, stays: &[Stay], rows: &[Row], budget: u64) -> Result<Corner<T>, RunStop>
     requires whole { IsWhole (as_problem rows.now stays.now) }
     ensures problem { IfOk result (λ c. c.problem ≡ as_problem rows.now stays.now) }
     ensures end { IfOk result HasEnded }
@@ -86,9 +86,9 @@ pub fn started(alloc: Global, stays: &[Stay], rows: &[Row], budget: u64) -> Resu
 }
 
 // Adds the next row, and goes on to the best corner.
-fn join_next(
+fn join_next<T: Tableau>(
     alloc: Global,
-    c: &mut Corner,
+    c: &mut Corner<T>,
     rows: &[Row],
     i: usize,
     budget: u64,
@@ -110,7 +110,7 @@ fn join_next(
 }
 
 // Adds rows to the corner of none one after another, and goes on to the best corner after each.
-fn join_each(alloc: Global, c: &mut Corner, rows: &[Row], budget: u64) -> Result<(), RunStop>
+fn join_each<T: Tableau>(alloc: Global, c: &mut Corner<T>, rows: &[Row], budget: u64) -> Result<(), RunStop>
     requires marked { 0 < length c.old.before }
     requires none { c.old.problem.rows ≡ [] }
     requires first { c.old.marks ≡ [] }
@@ -131,9 +131,9 @@ fn join_each(alloc: Global, c: &mut Corner, rows: &[Row], budget: u64) -> Result
 
 // Gives the corner of nothing these stays, and then one row after another; goes on to the best corner, and
 // marks it.
-fn fill_by_rows(
+fn fill_by_rows<T: Tableau>(
     alloc: Global,
-    c: &mut Corner,
+    c: &mut Corner<T>,
     stays: &[Stay],
     rows: &[Row],
     budget: u64,
@@ -160,12 +160,12 @@ fn fill_by_rows(
 ///
 /// A stop is that of one of the runs, each of which has the whole budget. Where one stops, [`started`] goes
 /// another way, and may come to the end.
-pub fn started_by_rows(
+pub fn started_by_rows<T: Tableau>(
     alloc: Global,
     stays: &[Stay],
     rows: &[Row],
     budget: u64,
-) -> Result<Corner, RunStop>
+) -> Result<Corner<T>, RunStop>
     requires whole { IsWhole (as_problem rows.now stays.now) }
     ensures problem { IfOk result (λ c. c.problem ≡ as_problem rows.now stays.now) }
     ensures end { IfOk result HasEnded }

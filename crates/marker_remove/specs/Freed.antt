@@ -15,7 +15,7 @@ use Rattle.problem_core.specs.Unfit.{IsUnfitWhat}
 use Rattle.cert_core.specs.Paths.{Path}
 use Rattle.cert_core.specs.declared.stops.RunStop.{RunStop}
 use Rattle.cert_core.specs.declared.stops.RunStop.TheVariants.{Conflict, Unfit, Spent, OutOfMemory}
-use Rattle.corner.specs.Views.{HasValueAt, MovesWith, in_order}
+use Rattle.corner_view.specs.Views.{HasValueAt, MovesWith, in_order}
 
 -- a mark of the row is inside
 abbrev pub HasMarkIn : List Mark → ℕ → Type 0

@@ -12,7 +12,7 @@ use Rattle.problem_core.specs.declared.parts.RowName.{RowName}
 use Rattle.problem_core.specs.Layout.{HasStay, Line, Problem, Row, line_of_row, stay_lines}
 use Rattle.problem_core.specs.Kept.{IsNumber, IsRow, IsWhole}
 use Rattle.corner_lines.specs.Joins.{with_attr}
-use Rattle.corner_table.specs.declared.table.Owner.TheVariants.{Level as LevelSlot}
+use Rattle.corner_view.specs.declared.types.Owner.TheVariants.{Level as LevelSlot}
 use Rattle.corner_table.specs.declared.table.Priority.{Priority}
 use Rattle.corner_table.specs.declared.table.Slot.{Slot}
 use Rattle.corner_table.specs.declared.table.Standing.{Standing}

@@ -6,8 +6,8 @@ use Rattle.problem_core.specs.declared.parts.RowName.TheVariants.{Held, Stay as 
 use Rattle.problem_core.specs.Corners.{HasNegativeColumn}
 use Rattle.problem_core.specs.Layout.{Problem, lines}
 use Rattle.corner_lines.specs.Removals.{IsFree, without_attr}
-use Rattle.corner_table.specs.declared.table.Owner.{Owner}
-use Rattle.corner_table.specs.declared.table.Owner.TheVariants.{Level as LevelSlot, Attr as AttrSlot, Line as LineSlot}
+use Rattle.corner_view.specs.declared.types.Owner.{Owner}
+use Rattle.corner_view.specs.declared.types.Owner.TheVariants.{Level as LevelSlot, Attr as AttrSlot, Line as LineSlot}
 use Rattle.corner_table.specs.declared.table.Slot.{Slot}
 use Rattle.corner_table.specs.declared.table.Table.{Table}
 use Rattle.corner.specs.Removals.Dropping.{dropped_attr}

@@ -6,7 +6,7 @@ use Rattle.problem_core.specs.declared.parts.Stay.{Stay}
 use Rattle.problem_core.specs.Layout.{Problem, Row, lines}
 use Rattle.problem_core.specs.declared.parts.RowName.{RowName}
 use Rattle.problem_core.specs.Corners.{marks_of}
-use Rattle.corner_table.specs.declared.table.Owner.{Owner}
+use Rattle.corner_view.specs.declared.types.Owner.{Owner}
 use Rattle.corner_table.specs.declared.table.Slot.{Slot}
 use Rattle.corner_table.specs.declared.table.TheConstants.{LEVELS}
 use Rattle.corner_table.specs.declared.table.Table.{Table}

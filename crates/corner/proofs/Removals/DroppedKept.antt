@@ -29,8 +29,8 @@ use Rattle.corner_lines.specs.LineEquations.{IsLineEquation, IsOutsideLine, devi
 use Rattle.corner_lines.proofs.ProblemChanges.Dropped.{attr_without, deviation_without, left_corner, left_line, left_rays, row-on, row-off, filter-on, filter-off, other_row, left-far as left_far}
 use Rattle.corner.specs.declared.leaving.Leaver.{Leaver}
 use Rattle.corner.specs.declared.leaving.Left.{Left}
-use Rattle.corner_table.specs.declared.table.Owner.{Owner}
-use Rattle.corner_table.specs.declared.table.Owner.TheVariants.{Level as LevelSlot, Attr as AttrSlot, Line as LineSlot}
+use Rattle.corner_view.specs.declared.types.Owner.{Owner}
+use Rattle.corner_view.specs.declared.types.Owner.TheVariants.{Level as LevelSlot, Attr as AttrSlot, Line as LineSlot}
 use Rattle.corner_table.specs.declared.table.Priority.{Priority}
 use Rattle.corner_table.specs.declared.table.Slot.{Slot}
 use Rattle.corner_table.specs.declared.table.Standing.{Standing}

@@ -20,7 +20,7 @@ use Rattle.problem_core.specs.Corners.{Swap}
 use Rattle.problem_core.specs.Layout.{lines}
 use Rattle.corner_laws.specs.Runs.{other_side}
 use Rattle.corner.specs.declared.shifting.Growth.{Growth}
-use Rattle.corner_table.specs.declared.table.Owner.TheVariants.{Line as LineSlot}
+use Rattle.corner_view.specs.declared.types.Owner.TheVariants.{Line as LineSlot}
 use Rattle.corner_table.specs.declared.table.Standing.{Standing}
 use Rattle.corner_table.specs.declared.table.TheConstants.{LEVELS}
 use Rattle.corner_exchange.specs.Swaps.Exchanges.{with_value}

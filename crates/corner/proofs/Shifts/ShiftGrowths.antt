@@ -22,7 +22,7 @@ use Rattle.corner_lines.proofs.LevelRows.LevelExchanges.{inside-numbers}
 use Rattle.corner_lines.proofs.Lines.LineWritings.{named-mark}
 use Rattle.corner_lines.proofs.ProblemChanges.Shifted.{held-named}
 use Rattle.corner.specs.declared.shifting.Growth.{Growth}
-use Rattle.corner_table.specs.declared.table.Owner.{Owner}
+use Rattle.corner_view.specs.declared.types.Owner.{Owner}
 use Rattle.corner_table.specs.declared.table.Standing.{Standing}
 use Rattle.corner_table.specs.declared.table.TheConstants.{LEVELS}
 use Rattle.corner_table.specs.Tables.{Lists, entry, line_slot, marks_at, number, priority_at, problem_of, slot_at, standing_at}

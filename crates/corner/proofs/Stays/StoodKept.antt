@@ -30,8 +30,8 @@ use Rattle.corner_lines.specs.Levels.LevelRows.{HasLevelRow}
 use Rattle.corner_lines.specs.Joins.{HaveStood, with_stays}
 use Rattle.corner_lines.proofs.FrontsStay.{moved_levels_stay}
 use Rattle.corner_lines.proofs.ProblemChanges.MovedStays.{attr_unmoved, held_unmoved, stay-holds, stood_corner, stood_line, stood_rays, stood_stay}
-use Rattle.corner_table.specs.declared.table.Owner.{Owner}
-use Rattle.corner_table.specs.declared.table.Owner.TheVariants.{Level as LevelSlot, Attr as AttrSlot, Line as LineSlot}
+use Rattle.corner_view.specs.declared.types.Owner.{Owner}
+use Rattle.corner_view.specs.declared.types.Owner.TheVariants.{Level as LevelSlot, Attr as AttrSlot, Line as LineSlot}
 use Rattle.corner_table.specs.declared.table.Standing.{Standing}
 use Rattle.corner_table.specs.declared.table.TheConstants.{LEVELS}
 use Rattle.corner.specs.Views.{IsMarkOf, IsNamed}

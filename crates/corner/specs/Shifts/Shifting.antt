@@ -18,18 +18,15 @@ use Rattle.corner_lines.specs.LineEquations.{sign_of}
 use Rattle.corner_lines.specs.Shifts.{IsShift, has_constant}
 use Rattle.corner_exchange.specs.Swaps.Exchanges.{IsWhatAt, with_value}
 use Rattle.corner.specs.declared.shifting.Growth.{Growth}
-use Rattle.corner_table.specs.declared.table.Owner.{Owner}
-use Rattle.corner_table.specs.declared.table.Owner.TheVariants.{Level as LevelSlot, Attr as AttrSlot}
-use Rattle.corner_table.specs.declared.table.Owner.TheVariants.{Line as LineSlot}
+use Rattle.corner_view.specs.declared.types.Owner.{Owner}
+use Rattle.corner_view.specs.declared.types.Owner.TheVariants.{Level as LevelSlot, Attr as AttrSlot}
+use Rattle.corner_view.specs.declared.types.Owner.TheVariants.{Line as LineSlot}
 use Rattle.corner_table.specs.declared.table.Standing.{Standing}
 use Rattle.corner_table.specs.declared.table.TheConstants.{LEVELS}
 use Rattle.corner_table.specs.Kept.{level_own}
 use Rattle.corner_table.specs.Reads.LevelNumbers.{count_of, unit_at}
 use Rattle.corner_table.specs.Tables.{Lists, entry, line_slot, priority_at, problem_of, slot_at, standing_at}
-
--- the problem has the row, and what this constant is above the row's own fits
-abbrev pub IsNear : Problem → ℕ → Fraction → Type 0
-IsNear p id to = (from : Fraction) × (more : Fraction) × IsShift p id from to more × IsKept more
+pub use Rattle.corner_view.specs.Changes.{IsNear}
 
 -- ---- what a slot's value grows by
 

@@ -6,7 +6,7 @@ ghost use Rattle.problem_core.specs.declared.parts.RowName.TheVariants as row_na
 ghost use Rattle.problem_core.specs.declared.parts.Stay as stay_type;
 ghost use Rattle.corner.specs.Astray.{AreAstray};
 ghost use Rattle.corner.specs.Shifts.Stood.{AreFirstStood, IsAtRest, stay_slot};
-ghost use Rattle.corner_table.specs.declared.table.Owner.TheVariants as owner_type;
+ghost use Rattle.corner_view.specs.declared.types.Owner.TheVariants as owner_type;
 ghost use Rattle.corner_table.specs.Histories.{HasSameHistory};
 ghost use Rattle.corner_table.specs.Kept.{AreSlots, IsKept, IsStayOwner};
 ghost use Rattle.corner_table.specs.Tables as tables;

@@ -25,8 +25,8 @@ use Rattle.corner_lines.specs.LineEquations.{IsLineEquation, deviation, sign_of}
 use Rattle.corner_lines.proofs.Lines.LineUnfits.{mark_has_none}
 use Rattle.corner_exchange.specs.declared.exchange.Pivot.{Pivot}
 use Rattle.corner_writings.specs.declared.levels.Pair.{Pair}
-use Rattle.corner_table.specs.declared.table.Owner.{Owner}
-use Rattle.corner_table.specs.declared.table.Owner.TheVariants.{Level as LevelSlot, Attr as AttrSlot, Line as LineSlot}
+use Rattle.corner_view.specs.declared.types.Owner.{Owner}
+use Rattle.corner_view.specs.declared.types.Owner.TheVariants.{Level as LevelSlot, Attr as AttrSlot, Line as LineSlot}
 use Rattle.corner_table.specs.declared.table.TheConstants.{LEVELS}
 use Rattle.corner_table.specs.Tables.{Lists, attr_slot, entry, line_slot, marks_at, number, problem_of, row_at, sign_of_what, slot_at, standing_at}
 use Rattle.corner_table.specs.Kept.{IsEquationAt, IsKept, IsLineRow, IsOwned, IsSlot, IsStayOwner}

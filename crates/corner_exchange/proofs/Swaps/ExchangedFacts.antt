@@ -20,8 +20,8 @@ use Rattle.corner_lines.proofs.Lines.LineExchanges.{line_stays}
 use Rattle.corner_exchange.specs.declared.exchange.Change.{Change}
 use Rattle.corner_exchange.specs.declared.exchange.Exchange.{Exchange}
 use Rattle.corner_writings.specs.declared.levels.Pair.{Pair}
-use Rattle.corner_table.specs.declared.table.Owner.{Owner}
-use Rattle.corner_table.specs.declared.table.Owner.TheVariants.{Level as LevelSlot, Attr as AttrSlot, Line as LineSlot}
+use Rattle.corner_view.specs.declared.types.Owner.{Owner}
+use Rattle.corner_view.specs.declared.types.Owner.TheVariants.{Level as LevelSlot, Attr as AttrSlot, Line as LineSlot}
 use Rattle.corner_table.specs.declared.table.Slot.{Slot}
 use Rattle.corner_table.specs.declared.table.Standing.{Standing}
 use Rattle.corner_table.specs.declared.table.TheConstants.{LEVELS}

@@ -16,8 +16,8 @@ use Rattle.problem_core.specs.Layout.{HasStay, lines}
 use Rattle.problem_core.specs.Corners.{IsIn, SameMarks, Swap, marks_of, place}
 use Rattle.corner_laws.proofs.Exchanged.{exchanged_in}
 use Rattle.corner_exchange.specs.declared.exchange.Exchange.{Exchange}
-use Rattle.corner_table.specs.declared.table.Owner.{Owner}
-use Rattle.corner_table.specs.declared.table.Owner.TheVariants.{Line as LineSlot}
+use Rattle.corner_view.specs.declared.types.Owner.{Owner}
+use Rattle.corner_view.specs.declared.types.Owner.TheVariants.{Line as LineSlot}
 use Rattle.corner_table.specs.declared.table.Standing.{Standing}
 use Rattle.corner_table.specs.declared.table.TheConstants.{LEVELS}
 use Rattle.corner_table.specs.Views.{IsMarkOf, IsNamed}

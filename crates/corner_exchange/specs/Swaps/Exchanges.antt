@@ -28,9 +28,9 @@ use Rattle.corner_exchange.specs.declared.exchange.Change.{Change}
 use Rattle.corner_exchange.specs.declared.exchange.Exchange.{Exchange}
 use Rattle.corner_exchange.specs.declared.exchange.Pivot.{Pivot}
 use Rattle.corner_writings.specs.declared.levels.Pair.{Pair}
-use Rattle.corner_table.specs.declared.table.Owner.{Owner}
-use Rattle.corner_table.specs.declared.table.Owner.TheVariants.{Level as LevelSlot, Attr as AttrSlot}
-use Rattle.corner_table.specs.declared.table.Owner.TheVariants.{Line as LineSlot}
+use Rattle.corner_view.specs.declared.types.Owner.{Owner}
+use Rattle.corner_view.specs.declared.types.Owner.TheVariants.{Level as LevelSlot, Attr as AttrSlot}
+use Rattle.corner_view.specs.declared.types.Owner.TheVariants.{Line as LineSlot}
 use Rattle.corner_table.specs.declared.table.Standing.{Standing}
 use Rattle.corner_table.specs.declared.table.TheConstants.{LEVELS}
 use Rattle.corner_table.specs.Tables.{Lists, entry, line_slot, marks_at, priority_at, problem_of, row_at}

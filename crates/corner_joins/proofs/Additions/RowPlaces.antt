@@ -18,8 +18,8 @@ use Rattle.problem_core.specs.Corners.{IsIn, SameMarks, marks_of, place, place_o
 use Rattle.corner_laws.proofs.MarkWritings.Lifts.{each_drop, each_put}
 use Rattle.corner_lines.specs.Joins.{with_row}
 use Rattle.corner_lines.proofs.ProblemChanges.JoinedRows.{fresh-names, new-in, old-in}
-use Rattle.corner_table.specs.declared.table.Owner.{Owner}
-use Rattle.corner_table.specs.declared.table.Owner.TheVariants.{Level as LevelSlot, Attr as AttrSlot, Line as LineSlot}
+use Rattle.corner_view.specs.declared.types.Owner.{Owner}
+use Rattle.corner_view.specs.declared.types.Owner.TheVariants.{Level as LevelSlot, Attr as AttrSlot, Line as LineSlot}
 use Rattle.corner_table.specs.declared.table.Slot.{Slot}
 use Rattle.corner_table.specs.declared.table.Standing.{Standing}
 use Rattle.corner_table.specs.declared.table.TheConstants.{LEVELS}

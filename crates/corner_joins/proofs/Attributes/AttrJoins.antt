@@ -22,8 +22,8 @@ use Rattle.problem_core.specs.Corners.{attr_column, marks_of}
 use Rattle.corner_lines.specs.LineEquations.{IsLineEquation, deviation, sign_of}
 use Rattle.corner_lines.specs.Joins.{new_stay, with_attr}
 use Rattle.corner_lines.proofs.ProblemChanges.NewStays.{attr_line, old_line}
-use Rattle.corner_table.specs.declared.table.Owner.{Owner}
-use Rattle.corner_table.specs.declared.table.Owner.TheVariants.{Level as LevelSlot, Attr as AttrSlot, Line as LineSlot}
+use Rattle.corner_view.specs.declared.types.Owner.{Owner}
+use Rattle.corner_view.specs.declared.types.Owner.TheVariants.{Level as LevelSlot, Attr as AttrSlot, Line as LineSlot}
 use Rattle.corner_table.specs.declared.table.Slot.{Slot}
 use Rattle.corner_table.specs.declared.table.Standing.{Standing}
 use Rattle.corner_table.specs.declared.table.TheConstants.{LEVELS, MOST_SLOTS, OWN_RANK}

@@ -9,7 +9,7 @@ use Rattle.row_core.specs.Rows.{IsKeptRow}
 use Rattle.indexed_rows.proofs.Indexing.{none_kept, number_at_column}
 use Rattle.problem_core.specs.declared.parts.Rel.TheVariants.{Eq}
 use Rattle.problem_core.specs.declared.parts.RowName.{RowName}
-use Rattle.corner_table.specs.declared.table.Owner.TheVariants.{Level as LevelSlot}
+use Rattle.corner_view.specs.declared.types.Owner.TheVariants.{Level as LevelSlot}
 use Rattle.corner_table.specs.declared.table.Slot.{Slot}
 use Rattle.corner_table.specs.Reads.LevelNumbers.{side_share}
 use Rattle.indexed_rows.specs.Lists.{HasColumn}
@@ -34,7 +34,7 @@ use Rattle.corner_lines.specs.Levels.LevelJoins.{level_count}
 use Rattle.corner_table.specs.declared.table.Priority.{Priority}
 use Rattle.corner_table.specs.declared.table.TheConstants.{LEVELS}
 use Rattle.corner_table.specs.Tables.{Lists, line_slot, marks_at, marks_over, priority_at, problem_of, row_at, standing_at}
-use Rattle.corner_table.specs.declared.table.Owner.TheVariants.{Line as LineSlot}
+use Rattle.corner_view.specs.declared.types.Owner.TheVariants.{Line as LineSlot}
 use Rattle.corner_table.specs.Kept.{IsKept}
 use Rattle.corner_joins.proofs.Attributes.AttrJoins.{nowhere}
 use Rattle.corner_joins.specs.Additions.Parts.{IsPartlyKept}

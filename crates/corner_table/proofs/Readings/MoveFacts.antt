@@ -10,8 +10,8 @@ use Rattle.std.proofs.lemmas.Option.{get_or_from_slice_get, slice_get-get_or, sl
 use Rattle.problem_core.specs.Layout.{HasStay}
 use Rattle.problem_core.specs.Window.{zero_fraction}
 use Rattle.problem_core.specs.declared.parts.Rel.TheVariants.{Eq}
-use Rattle.corner_table.specs.declared.table.Owner.{Owner}
-use Rattle.corner_table.specs.declared.table.Owner.TheVariants.{Level as LevelSlot, Attr as AttrSlot, Line as LineSlot}
+use Rattle.corner_view.specs.declared.types.Owner.{Owner}
+use Rattle.corner_view.specs.declared.types.Owner.TheVariants.{Level as LevelSlot, Attr as AttrSlot, Line as LineSlot}
 use Rattle.corner_table.specs.declared.table.Slot.{Slot}
 use Rattle.corner_table.specs.declared.table.Standing.{Standing}
 use Rattle.corner_table.specs.declared.table.Priority.{Priority}

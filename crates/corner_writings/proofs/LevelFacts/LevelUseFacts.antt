@@ -13,9 +13,9 @@ use Rattle.problem_core.specs.Layout.{Line, Problem, Row, line_of_row, lines, st
 use Rattle.problem_core.specs.Levels.{IsLevelAt}
 use Rattle.row_core.specs.Rows.{Term, coefficient}
 use Rattle.corner_laws.proofs.Counting.{head_pairs}
-use Rattle.corner_writings.specs.declared.levels.Front.{Front}
-use Rattle.corner_table.specs.declared.table.Owner.{Owner}
-use Rattle.corner_table.specs.declared.table.Owner.TheVariants.{Line as LineSlot}
+use Rattle.corner_view.specs.declared.types.Front.{Front}
+use Rattle.corner_view.specs.declared.types.Owner.{Owner}
+use Rattle.corner_view.specs.declared.types.Owner.TheVariants.{Line as LineSlot}
 use Rattle.corner_table.specs.declared.table.TheConstants.{LEVELS}
 use Rattle.corner_table.specs.Tables.{Lists, entry, level_slot, line_slot, marks_at, problem_of, slot_at, stay_rank}
 use Rattle.corner_table.specs.Kept.{HasCost, IsKept, IsStayOwner}

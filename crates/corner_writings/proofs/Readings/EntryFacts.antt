@@ -14,8 +14,8 @@ use Rattle.problem_core.specs.declared.parts.Side.TheVariants.{Under}
 use Rattle.problem_core.specs.declared.stops.What.TheVariants.{Mark as MarkOf}
 use Rattle.problem_core.specs.Corners.{IsIn, place}
 use Rattle.corner_lines.specs.LineEquations.{sign_of}
-use Rattle.corner_table.specs.declared.table.Owner.{Owner}
-use Rattle.corner_table.specs.declared.table.Owner.TheVariants.{Line as LineSlot}
+use Rattle.corner_view.specs.declared.types.Owner.{Owner}
+use Rattle.corner_view.specs.declared.types.Owner.TheVariants.{Line as LineSlot}
 use Rattle.corner_table.specs.declared.table.Table.{Table}
 use Rattle.corner_table.specs.Views.{CornerView, IsNamed, IsOutside}
 use Rattle.corner_writings.specs.Entries.{AreBothOutside, AreEntries, HasEntry}

@@ -2,7 +2,7 @@
 use Rattle.std.proofs.Common.{◌≡◌, ◌≢◌, ℕ, ◌≤◌, ap, pos}
 use Rattle.row_core.specs.Rows.{coefficient}
 use Rattle.problem_core.specs.declared.parts.RowName.{RowName}
-use Rattle.corner_table.specs.declared.table.Owner.TheVariants.{Level as LevelSlot, Line as LineSlot}
+use Rattle.corner_view.specs.declared.types.Owner.TheVariants.{Level as LevelSlot, Line as LineSlot}
 use Rattle.corner_table.specs.declared.table.TheConstants.{LEVELS}
 use Rattle.corner_table.specs.Invariants.{name_of}
 use Rattle.corner_table.specs.Kept.{AreSlots, AreStored}

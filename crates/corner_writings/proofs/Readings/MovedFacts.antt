@@ -17,8 +17,8 @@ use Rattle.problem_core.specs.declared.stops.What.TheVariants.{Attr as AttrOf, M
 use Rattle.problem_core.specs.Corners.{IsIn, attr_column, place, place_of}
 use Rattle.corner_laws.specs.Runs.{other_side}
 use Rattle.corner_lines.specs.LineEquations.{sign_of}
-use Rattle.corner_table.specs.declared.table.Owner.{Owner}
-use Rattle.corner_table.specs.declared.table.Owner.TheVariants.{Level as LevelSlot, Attr as AttrSlot, Line as LineSlot}
+use Rattle.corner_view.specs.declared.types.Owner.{Owner}
+use Rattle.corner_view.specs.declared.types.Owner.TheVariants.{Level as LevelSlot, Attr as AttrSlot, Line as LineSlot}
 use Rattle.corner_table.specs.declared.table.Slot.{Slot}
 use Rattle.corner_table.specs.declared.table.TheConstants.{LEVELS}
 use Rattle.corner_table.specs.Views.{AreMovers, IsNamed, IsOutside, IsWritten, MovesWith, owner_of}

@@ -13,7 +13,7 @@ use Rattle.problem_core.specs.Layout.{Problem, coefficient}
 use Rattle.problem_core.specs.Corners.{IsCorner, place}
 use Rattle.problem_core.specs.Rays.{HasRays}
 use Rattle.corner_laws.proofs.MarkWritings.Directions.{writing_moves}
-use Rattle.corner_table.specs.declared.table.Owner.{Owner}
+use Rattle.corner_view.specs.declared.types.Owner.{Owner}
 use Rattle.corner_table.specs.Views.{AreMovers, CornerView, IsCoefficientOf, IsColumnOf, IsOutside, MovesWith, owner_of}
 use Rattle.corner_table.proofs.Basics.ListFacts.{from_map, further, to_map}
 use Rattle.corner_table.proofs.Readings.KeptFacts.{filter_same}

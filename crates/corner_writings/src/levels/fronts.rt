@@ -17,14 +17,8 @@ ghost use Rattle.corner_writings.specs.Walks.{IsStrongestAt, IsStrongestOf};
 
 use crate::levels::{Front, ends_column, front_at, front_of, has_cost, own_cost, signed, times_at};
 use corner_table::{Slot, Table, costs, line_slot, slot_at};
+pub use corner_view::Fronts;
 use problem_core::{Mark, Rel, RowName, Side};
-
-/// The fronts of a line's marks.
-#[derive(Clone, Copy, Debug)]
-pub struct Fronts {
-    pub under: Option<Front>,
-    pub over: Option<Front>,
-}
 
 // The reduced costs of a line's marks at a level.
 #[derive(Clone, Copy)]

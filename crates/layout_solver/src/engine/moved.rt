@@ -2,9 +2,10 @@
 ghost use Rattle.std.specs.Prelude.{◌<◌, length, IfOk};
 
 use crate::engine::Engine;
+use corner_view::Tableau;
 use frac_core::OutOfMemory;
 
-impl Engine {
+impl<T: Tableau> Engine<T> {
     ghost use Rattle.layout_solver.specs.Layouts.{solution_of};
     ghost use Rattle.layout_solver.specs.Moves.{AreMovedSince, HasValueOf};
 

@@ -1,0 +1,4 @@
+pub mod Facts
+pub mod StoodLines
+pub mod StoodColumns
+pub mod ShiftLines
