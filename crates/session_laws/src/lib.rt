@@ -1,9 +1,9 @@
-//! Laws about sessions: what a line comes to with room, that a command poses one problem, and that the check
-//! accepts what is shown.
+//! Laws about sessions: with room every line is answered, a command poses one problem, and the check accepts
+//! what the program shows.
 //!
-//! Each law is the contract of a function that does nothing; its statement stands in `specs/` under the
-//! function's name. Room is room for numbers and exchanges, never for memory: the machine of `session_undo` has
-//! no reply to want of memory.
+//! Each law is the contract of a function that does nothing; its statement is in `specs/` under the function's
+//! name. Room is room for numbers and exchanges, never for memory: the machine of `session_undo` has no reply
+//! for a lack of memory.
 //!
 //! ```
 //! pub fn one_problem_is_posed()       // two problems that a command poses are one
@@ -17,14 +17,14 @@
 //!   says what room is, `specs/Answered/Laws.antt` what the laws say. A budget is the greatest number of pivots
 //!   of one run of the simplex method, primal or dual.
 //! - `posed`, beginning with [`one_problem_is_posed`]: a line, a format, a text or a name leaves no choice, in
-//!   sessions and for commands in which no number has a denominator of 0 and each view is newer than its parent
+//!   sessions and commands without a denominator of 0, if each view is newer than its parent
 //!   (`specs/Posed/Definite.antt`). So the answer to `why` foretells what comes of the change
 //!   (`specs/Posed/Questions.antt`).
 //! - `shown`, beginning with [`shown_is_judged`]: a certificate, the multipliers of a conflict and the path to
 //!   what does not fit, or to the end of the budget, are read as they were written, and the check answers `yes`,
 //!   or `no room` (`specs/Shown/Shown.antt`). In linear programming's words: the dual solution of an end passes
-//!   the test of optimality, the dual ray of an infeasible program the test of infeasibility, and a run of
-//!   pivots that of a lawful run.
+//!   the test of optimality, the dual ray of an infeasible program the test of infeasibility, and the pivots of
+//!   a run the test of a lawful run.
 #![tactic(auto)]
 
 mod answered;

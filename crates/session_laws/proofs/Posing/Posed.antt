@@ -23,7 +23,7 @@ one-problem draft p q definite is also =
     ap₂ (λ (rs : List Row) (ss : List Stay). (let r : Problem = record { rows = rs; stays = ss } in r))
     (one-rows draft.metrics draft.held p.rows q.rows definite.metrics definite.held is.0 also.0) (is.1 ∙ sym also.1)
 
--- a problem that a change poses is that of a draft
+-- if a change poses a problem, a draft has this problem
 pub draft-of : (old : State) (c : Change) (p : Problem) → PosesChange old c p → (d : Scene) × Makes old c d × IsProblemOf d p
 draft-of old c p posed = elim (comes old Problem (PosesDraft p) PosesDraft Done Done old old c posed) [
   | inl bad ↦ absurd (true≢false (sym bad.0))

@@ -1,4 +1,4 @@
--- What is told of a command that is asked about foretells what comes of it.
+-- The answer to `why` foretells the reply to the change itself.
 use Rattle.std.proofs.Common.{◌≡◌, ◌∙◌, inl, inr, ℕ, Bool, true, false, List, [], refl, sym, ap, subst, true≢false}
 use Rattle.frac_core.specs.Fraction.{Fraction}
 use Rattle.problem_core.specs.declared.parts.RowName.TheVariants.{Held}
@@ -30,7 +30,7 @@ use Rattle.session_laws.proofs.Posing.Posed.{draft-of, same-drafts}
 
 -- ---- replies
 
--- the reply tells a conflict
+-- the reply reports a conflict
 abbrev is_conflict : Reply → Bool
 is_conflict (Conflict by) = true
 is_conflict _ = false
@@ -40,12 +40,12 @@ abbrev is_done : Reply → Bool
 is_done Done = true
 is_done _ = false
 
--- that there is no conflict is told
+-- the reply says that there is no conflict
 abbrev is_solvable : Reply → Bool
 is_solvable Solvable = true
 is_solvable _ = false
 
--- a core is told
+-- the reply shows a core
 abbrev is_core : Reply → Bool
 is_core (Core ids by values) = true
 is_core _ = false
@@ -55,19 +55,19 @@ differ test a b holds fails same = true≢false (sym holds ∙ (ap test same ∙
 
 -- ---- causes
 
--- a cause against a change is told as one
+-- if there is a cause against a change, the reply is its refusal
 cause-told : (old : State) (c : Change) (r : Reply) (s : State) → Tried old c NoEnd r s → is_cause r ≡ true
 cause-told old c r s h = elim (comes old Problem NoEnd PosesDraft r r s s c h) [
   | inl refused ↦ refused.0
   | inr draft ↦ absurd draft.2
 ]
 
--- ---- what is told of the posed problem
+-- ---- the reply about the posed problem
 
 abbrev HasSolution : Problem → Type 0
 HasSolution p = (x : Assignment) × Satisfies p x
 
--- where it is told that there is no conflict, the change's problem has a solution
+-- if the reply says that there is no conflict, the change's problem has a solution
 pub solvable-posed : (old : State) (m : Change) (new : State) → WhyStep old m Solvable new → (p : Problem) × PosesChange old m p × IsWhole p × HasSolution p
 solvable-posed old m new (inl cause) = absurd (true≢false (sym (cause-told old m Solvable new cause)))
 solvable-posed old m new (inr (p, poses, inl none)) = (p, poses, none.whole, (none.solution, none.satisfies))
@@ -75,7 +75,7 @@ solvable-posed old m new (inr (p, poses, inr (inl core))) = absurd (differ is_so
 solvable-posed old m new (inr (p, poses, inr (inr (inl over)))) = absurd (differ is_solvable Solvable (Overflow (Trial over.held.items) over.at.path over.at.quantity) refl refl over.refused.0)
 solvable-posed old m new (inr (p, poses, inr (inr (inr spent)))) = absurd (differ is_solvable Solvable (Spent (Trial spent.held.items) spent.path) refl refl spent.refused.0)
 
--- the rows of a core that is told
+-- the rows of a core in the reply
 abbrev core_ids : Reply → List ℕ
 core_ids (Core ids by values) = ids
 core_ids _ = []
@@ -173,7 +173,7 @@ module _ (old : State) (c : Change) (p : Problem) (definite : IsDefinite old.sce
   as-posed : (d : Scene) (q : Problem) → Makes old c d → IsProblemOf d q → q ≡ p
   as-posed d q made of = same-drafts old c q p definite ok (d, made, of) (draft-of old c p poses)
 
-  -- it has a solution, so no conflict of it is told
+  -- it has a solution, so no reply reports a conflict of it
   not-refused : (by : List By) (after : State) → IsWhole p → HasSolution p → ChangeStep old c (Conflict by) after → ⊥
   not-refused by after whole (x, sat) step = elim (comes old Problem (EndsAs old (kind_for c)) PosesDraft (Conflict by) Done after old c step) [
     | inl refused ↦ true≢false (sym refused.0)

@@ -36,8 +36,8 @@ IsAccepted p reply = ((x : Assignment) × Satisfies p x) × (reply ≡ Done)
 abbrev pub IsDecided : Problem → Reply → Type 0
 IsDecided p reply = IsAccepted p reply ⊎ (IsInConflict p × ((by : List By) × (reply ≡ Conflict by)))
 
--- what a change comes to, where this is its problem: views that come, what leaves, another direction, and a
--- view that is kept are in no conflict
+-- the reply to a change, if this is its problem: new views, removals, another direction and a kept view are
+-- never in conflict
 abbrev pub ComesTo : Change → Problem → Reply → Type 0
 ComesTo (mean.Views new) = IsAccepted
 ComesTo (mean.Update new) = IsDecided
@@ -53,14 +53,14 @@ ChangesAreAnswered = (old : State) (c : Change) (reply : Reply) (new : State)
 
 -- ---- questions
 
--- the required rows have a solution, and that there is no conflict is told; or a core of them is told
+-- the required rows have a solution, and the reply says so; or it shows a core of them
 abbrev pub IsExplained : Problem → Reply → Type 0
 IsExplained p reply = (((x : Assignment) × Satisfies p x) × (reply ≡ Solvable))
     ⊎ ((ids : List ℕ) × (by : List By) × (values : List (ℕ × List (ℕ × Fraction))) × IsCore p ids
     × (reply ≡ Core ids by values))
 
--- where each trial of the change's problem has room, a cause is against the change, or why it would clash is
--- told, and nothing changes
+-- if each trial of the change's problem has room, the reply is a cause against the change, or says whether it
+-- would be in conflict, and nothing changes
 abbrev pub QuestionsAreAnswered : Type 0
 QuestionsAreAnswered = (old : State) (c : Change) (reply : Reply) (new : State)
     → ((p : Problem) → PosesChange old c p → HasRoomToExplain old.budget p) → WhyStep old c reply new

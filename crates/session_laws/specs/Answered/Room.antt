@@ -42,7 +42,7 @@ FitsOnTheWay scene p = (l : Leaving) → CanLeave l (stood_of scene) → AllPair
 abbrev pub HasRoomToLeave : State → Problem → Type 0
 HasRoomToLeave old p = HasRoom p.rows old.budget p × FitsOnTheWay old.scene p
 
--- there is room for a change, where this is its problem; another direction needs none
+-- there is room for a change, if this is its problem; another direction needs none
 abbrev pub HasRoomToStep : State → Change → Problem → Type 0
 HasRoomToStep old (mean.Views new) = HasRoom old.scene.rows old.budget
 HasRoomToStep old (mean.Update new) = HasRoom old.scene.rows old.budget

@@ -1,4 +1,4 @@
--- What is told of a change that is asked about, and what comes of the change itself.
+-- The answer to `why`, and the reply to the change itself.
 use Rattle.std.specs.Prelude.{ℕ, List, [], ◌∷◌, ℤ, pos, negsuc}
 use Rattle.frac_core.specs.Fraction.{Fraction}
 use Rattle.problem_core.specs.declared.parts.Mark.{Mark}
@@ -16,18 +16,18 @@ use Rattle.session_undo.specs.Replies.{Conflict, Core, Done, Solvable}
 use Rattle.session_undo.specs.State.{State, first_state}
 use Rattle.session_laws.specs.Posed.Definite.{IsDefinite, IsDefiniteChange}
 
--- what is told as a core is one, of the problem that the change poses
+-- a core in the reply is a core of the problem that the change poses
 abbrev pub CoresArePosed : Type 0
 CoresArePosed = (old : State) (c : Change) (ids : List ℕ) (by : List By)
     (values : List (ℕ × List (ℕ × Fraction))) (new : State) → WhyStep old c (Core ids by values) new
     → (p : Problem) × PosesChange old c p × IsCore p ids
 
--- where it is told that there is no conflict, the change isn't refused for one
+-- if the reply says that there is no conflict, the change isn't refused for one
 abbrev pub SolvableIsNotRefused : Type 0
 SolvableIsNotRefused = (old : State) (c : Change) (told after : State) (by : List By) → IsDefinite old.scene
     → IsDefiniteChange c → WhyStep old c Solvable told → ChangeStep old c (Conflict by) after → ⊥
 
--- where a core is told, the change isn't accepted
+-- if the reply shows a core, the change isn't accepted
 abbrev pub CoreIsNotAccepted : Type 0
 CoreIsNotAccepted = (old : State) (c : Change) (ids : List ℕ) (by : List By)
     (values : List (ℕ × List (ℕ × Fraction))) (told after : State) → IsDefinite old.scene
