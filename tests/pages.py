@@ -1,12 +1,13 @@
 #!/usr/bin/env python3
-"""pages.py [PROGRAM]: runs the scripts that the pages show, and tells where something else comes back than they say.
+"""pages.py [PROGRAM [SVG]]: runs the scripts that the pages show, and those in examples/, and reports each reply that differs.
 
-By itself it takes crates/layout/out/layout. A script is an indented block that begins with a command: left is what is
-sent, right what comes back. `..` stands for lines that are left out, `ok` is left out everywhere, and of `frames` any
-line may be. A block goes on with the session before it or begins one, and is right where either gives what it shows.
-One that begins with a name and a colon is a script for many scenes, of the mode `host`, and begins anew.
-Where a section shows parts of a stored screen, its lines have to stand there, and its frames to come back there. A block
-that begins with `row` is a claim, to which `check` says `yes`. Ends with 1 where something isn't as shown."""
+PROGRAM is crates/layout/out/layout if none is given. SVG is `layout_svg`; with it the drawings in examples/ are compared too.
+
+A script is an indented block that begins with a command: the left column is sent, the right one comes back. `..` stands for
+lines left out, `ok` is left out everywhere, and so may any line of `frames` be. A block continues the session before it or
+begins one, and is right if either gives what it shows. If a block begins with a name and a colon, it is a script for many
+scenes, of the mode `host`. If a section begins with a link to a script in examples/, its blocks show parts of that script and
+its output. If a block begins with `row`, it is a claim, and `check` must say `yes`. Ends with 1 if something differs."""
 import glob
 import os
 import re
@@ -15,27 +16,32 @@ import sys
 
 TOP = os.path.join(os.path.dirname(os.path.abspath(__file__)), "..")
 PROGRAM = os.path.abspath((sys.argv[1:] or [f"{TOP}/crates/layout/out/layout"])[0])
+SVG = os.path.abspath(sys.argv[2]) if sys.argv[2:] else None
 PAGES = ["README.md", "docs/GUIDE.md", "docs/LANGUAGE.md"]
-SCREENS = {"## 3. ": "Settings", "## 4. ": "Dialog"}
+SCREEN = re.compile(r"\[\w+\.script\]\(\.\./(examples/\w+)\.script\)")
 WORDS = """layout view tree drop metric window vfl constrain remove suggest release direction size unsize keep undo budget
 frames rows diagnose certify why sweep ?""".split()
 HOSTED = re.compile(r"[A-Za-z_]\w*: ")
 
 
 def blocks(page):
-    """The indented blocks of a page, each with the number of its first line and its section."""
-    section, block, first = "", [], 0
+    """The indented blocks of a page, each with the number of its first line, and the screen that its section begins with."""
+    shown, is_new, block, first = None, False, [], 0
     with open(page, encoding="utf-8") as text:
         lines = text.read().split("\n") + [""]
     for number, line in enumerate(lines, 1):
         if line.startswith("    "):
             first = first if block else number
             block.append(line[4:])
-        else:
-            if block:
-                yield first, section, block
-            block = []
-            section = line if line.startswith("## ") else section
+            continue
+        if block:
+            yield first, shown, block
+        block = []
+        if line.startswith("## "):
+            shown, is_new = None, True
+        elif line and is_new:
+            link = SCREEN.match(line)
+            shown, is_new = link and link[1], False
 
 
 def cells(line):
@@ -88,29 +94,36 @@ def differences(before, script, mode="run"):
     return [(sent, shown, reply) for (sent, shown), reply in zip(script, got) if not is_shown(sent, shown, reply)]
 
 
-def screen(name):
-    """The lines of a stored screen, wherever it stands among the stored runs."""
-    for path in glob.glob("crates/*/stdin"):
-        with open(path, encoding="utf-8") as stored:
-            _, heading, behind = stored.read().partition(f"#: {name}: ")
-        if heading:
-            return behind.split("\n= ", 1)[0].split("\n")[1:]
-    return []
-
-
 def missing(name, block):
-    """What of a section doesn't stand in the screen that it shows, or doesn't come back there."""
-    lines = screen(name)
-    there = lines + run("run", "\n".join(lines))
+    """What of a block isn't in the script that it shows parts of, or in its output."""
+    there = []
+    for path in (f"{name}.script", f"{name}.out"):
+        with open(path, encoding="utf-8") as text:
+            there += text.read().split("\n")
     return [(cell, name, []) for line in block for cell in cells(line) if cell not in there]
+
+
+def stale_examples():
+    """The stored outputs and drawings of examples/ that differ from what the programs give now."""
+    commands = [(".script", ".out", [PROGRAM, "run"]), (".check", ".out", [PROGRAM, "check"])]
+    commands += [(".out", ".svg", [SVG])] if SVG else []
+    stale = []
+    for given, wanted, command in commands:
+        for path in sorted(glob.glob(f"examples/*{given}")):
+            beside = path.removesuffix(given) + wanted
+            if wanted == ".svg" and not os.path.exists(beside):
+                continue
+            with open(path, "rb") as before, open(beside, "rb") as after:
+                if subprocess.run(command, stdin=before, capture_output=True, check=False).stdout != after.read():
+                    stale.append(beside)
+    return stale
 
 
 def main():
     os.chdir(TOP)
     count, wrong, session = 0, 0, []
     for page in PAGES:
-        for number, section, block in blocks(page):
-            name = next((SCREENS[front] for front in SCREENS if section.startswith(front)), None)
+        for number, name, block in blocks(page):
             first = block[0].split(" ")[0]
             if name:
                 bad = missing(name, block)
@@ -130,8 +143,11 @@ def main():
             wrong += bool(bad)
             for sent, shown, reply in bad:
                 print(f"{page}:{number}: {sent}\n  shown: {shown}\n  comes: {reply}")
-    print(f"{count} blocks, {wrong} not as shown")
-    sys.exit(1 if wrong else 0)
+    stale = stale_examples()
+    for path in stale:
+        print(f"{path}: the program gives something else")
+    print(f"{count} blocks, {wrong} not as shown; {len(stale)} files of examples/ not as stored")
+    sys.exit(1 if wrong or stale else 0)
 
 
 main()

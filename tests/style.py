@@ -1,13 +1,17 @@
 #!/usr/bin/env python3
-"""style.py [words]: counts, for each page that is kept by hand, the words that plain technical English avoids.
+"""style.py [words]: counts, for each page that is kept by hand, its words and the words that plain technical English avoids.
 
-With `words` it prints the lines too. Code, quoted words and tables of replies don't count. Ends with 1 if a page has one of
-them more than twice. The generated pages have the English of the comments, and aren't counted.
+For each page: all words as `wc -w` counts them, those of its prose (without code), the average length of a sentence of its
+paragraphs, and how often each rule is broken. The last line sums up. With `words` it prints the lines that break a rule, and
+the longest sentences. Code, quoted words and tables of replies don't count for the rules. Ends with 1 if a page breaks a rule
+more than twice, if an average is above 25 words, or if all pages have more than 30,000 words. The generated pages have the
+English of the comments, and aren't counted.
 """
 import glob, os, re, sys
 
 TOP = os.path.dirname(os.path.dirname(os.path.abspath(__file__)))
 GENERATED = {"DEFINITIONS.md", "CONTRACTS.md"}
+MOST_WORDS, MOST_AVERAGE, MOST_BREAKS = 30_000, 25, 2
 RULES = {
     "behind, for after": r"\bbehind\b",
     "told, for says or reports": r"\b(is|are|was|were) told\b|\btells? (of|that|what|which)\b",
@@ -33,19 +37,42 @@ def prose(text):
         yield number, re.sub(r"`[^`]*`|\"[^\"]*\"|\]\([^)]*\)", "`", line)
 
 
+def sentences(text):
+    """The sentences of a page's paragraphs and lists; tables and headings have none."""
+    paragraphs, is_open = [], False
+    for _, line in prose(text):
+        bare = re.sub(r"^(> ?)+", "", line.strip()).strip()
+        if not bare or bare[0] in "|#!<":
+            is_open = False
+        elif is_open and not re.match(r"([-*] |\d+\. )", bare):
+            paragraphs[-1] += " " + bare
+        else:
+            paragraphs.append(re.sub(r"^([-*] |\d+\. )", "", bare))
+            is_open = True
+    found = [one for paragraph in paragraphs for one in re.split(r"(?<=[.?!])\**\)?\s+(?=[A-Z`*(\[\d])| · ", paragraph)]
+    return [one for one in found if one.split()]
+
+
 def main(shows):
-    pages = sorted(glob.glob(f"{TOP}/*.md") + glob.glob(f"{TOP}/docs/*.md") + glob.glob(f"{TOP}/bench/*.md"))
-    worst = 0
+    pages = sorted(path for folder in (".", "docs", "bench", "examples") for path in glob.glob(f"{TOP}/{folder}/*.md"))
+    worst, total, total_prose, lengths, longest = 0, 0, 0, [], 0
     for page in (page for page in pages if os.path.basename(page) not in GENERATED):
-        lines = list(prose(open(page).read()))
+        with open(page, encoding="utf-8") as file: text = file.read()
+        lines, parts = list(prose(text)), sentences(text)
         found = {rule: [(n, line) for n, line in lines for _ in re.finditer(words, line)] for rule, words in RULES.items()}
         counts = {rule: len(hits) for rule, hits in found.items() if hits}
-        worst = max([worst, *counts.values()])
-        print(f"{os.path.relpath(page, TOP)}: {sum(len(line.split()) for _, line in lines)} words; "
-              + (", ".join(f"{rule} {count}" for rule, count in counts.items()) or "none of them"))
+        average = sum(len(part.split()) for part in parts) / max(1, len(parts))
+        words, plain = len(text.split()), sum(len(line.split()) for _, line in lines)
+        worst, longest = max([worst, *counts.values()]), max(longest, average)
+        total, total_prose, lengths = total + words, total_prose + plain, lengths + [len(part.split()) for part in parts]
+        print(f"{os.path.relpath(page, TOP)}: {words:,} words, {plain:,} of prose, {average:.1f} a sentence; "
+              + (", ".join(f"{rule} {count}" for rule, count in counts.items()) or "no rule broken"))
         for rule in counts if shows else ():
             for number, line in found[rule]: print(f"    {number}: {rule}: {line.strip()}")
-    return 1 if worst > 2 else 0
+        for part in sorted(parts, key=lambda part: -len(part.split()))[:3 if shows else 0]:
+            print(f"    {len(part.split())} words: {part}")
+    print(f"all pages kept by hand: {total:,} words, {total_prose:,} of prose, {sum(lengths) / len(lengths):.1f} a sentence")
+    return 1 if worst > MOST_BREAKS or longest > MOST_AVERAGE or total > MOST_WORDS else 0
 
 
 sys.exit(main(sys.argv[1:] == ["words"]))
