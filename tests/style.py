@@ -1,11 +1,11 @@
 #!/usr/bin/env python3
 """style.py [words]: counts, for each page that is kept by hand, its words and the words that plain technical English avoids.
 
-For each page: all words as `wc -w` counts them, those of its prose (without code), the average length of a sentence of its
-paragraphs, and how often each rule is broken. The last line sums up. With `words` it prints the lines that break a rule, and
-the longest sentences. Code, quoted words and tables of replies don't count for the rules. Ends with 1 if a page breaks a rule
-more than twice, if an average is above 25 words, or if all pages have more than 30,000 words. The generated pages have the
-English of the comments, and aren't counted.
+For each page: its words, those of its prose (without code), the average length of a sentence of its paragraphs, and how often
+each rule is broken. A word has a letter or a digit. The last line sums up. With `words` it prints the lines that break a rule,
+and the longest sentences. Code, quoted words and tables of replies don't count for the rules. Ends with 1 if a page breaks a
+rule more than twice, if an average is above 25 words, or if all pages have more than 30,000 words. Generated pages, and the
+table that tests/gate_costs.py writes, aren't counted.
 """
 import glob, os, re, sys
 
@@ -26,6 +26,10 @@ RULES = {
     "the one .. the other": r"\bthe one\b.*\bthe other\b|\bfrom the one\b",
     "Price, for Cost": r"\*?Price:|Hangs on:",
 }
+
+
+def words_of(text):
+    return [word for word in text.split() if re.search(r"[\w`]", word)]
 
 
 def prose(text):
@@ -50,27 +54,28 @@ def sentences(text):
             paragraphs.append(re.sub(r"^([-*] |\d+\. )", "", bare))
             is_open = True
     found = [one for paragraph in paragraphs for one in re.split(r"(?<=[.?!])\**\)?\s+(?=[A-Z`*(\[\d])| · ", paragraph)]
-    return [one for one in found if one.split()]
+    return [one for one in found if words_of(one)]
 
 
 def main(shows):
     pages = sorted(path for folder in (".", "docs", "bench", "examples") for path in glob.glob(f"{TOP}/{folder}/*.md"))
     worst, total, total_prose, lengths, longest = 0, 0, 0, [], 0
     for page in (page for page in pages if os.path.basename(page) not in GENERATED):
-        with open(page, encoding="utf-8") as file: text = file.read()
+        with open(page, encoding="utf-8") as file: text = re.sub(r"<!-- costs:(.|\n)*costs end -->", "", file.read())
         lines, parts = list(prose(text)), sentences(text)
         found = {rule: [(n, line) for n, line in lines for _ in re.finditer(words, line)] for rule, words in RULES.items()}
         counts = {rule: len(hits) for rule, hits in found.items() if hits}
-        average = sum(len(part.split()) for part in parts) / max(1, len(parts))
-        words, plain = len(text.split()), sum(len(line.split()) for _, line in lines)
+        long = [len(words_of(part)) for part in parts]
+        average = sum(long) / max(1, len(long))
+        words, plain = len(words_of(text)), sum(len(words_of(line)) for _, line in lines)
         worst, longest = max([worst, *counts.values()]), max(longest, average)
-        total, total_prose, lengths = total + words, total_prose + plain, lengths + [len(part.split()) for part in parts]
+        total, total_prose, lengths = total + words, total_prose + plain, lengths + long
         print(f"{os.path.relpath(page, TOP)}: {words:,} words, {plain:,} of prose, {average:.1f} a sentence; "
               + (", ".join(f"{rule} {count}" for rule, count in counts.items()) or "no rule broken"))
         for rule in counts if shows else ():
             for number, line in found[rule]: print(f"    {number}: {rule}: {line.strip()}")
-        for part in sorted(parts, key=lambda part: -len(part.split()))[:3 if shows else 0]:
-            print(f"    {len(part.split())} words: {part}")
+        for part in sorted(parts, key=lambda part: -len(words_of(part)))[:3 if shows else 0]:
+            print(f"    {len(words_of(part))} words: {part}")
     print(f"all pages kept by hand: {total:,} words, {total_prose:,} of prose, {sum(lengths) / len(lengths):.1f} a sentence")
     return 1 if worst > MOST_BREAKS or longest > MOST_AVERAGE or total > MOST_WORDS else 0
 
