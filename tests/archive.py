@@ -3,8 +3,8 @@
 
     tests/archive.py NAME       in the repository's top folder; the archive is crates/NAME/out/libNAME.a
 
-`rt lib` makes the same, but proves all crates below anew first, since `rt ci` leaves no word there that they are proved. So this is
-for `.ci/run`, behind a gate that has passed. It stands on the insides of the kit's `rt`.
+`rt lib` makes the same, but first proves all crates below again, because `rt ci` doesn't record there that they are proved. So this
+is for `.ci/run`, after a gate that passed. It uses internals of the kit's `rt`.
 """
 import os
 import shutil

@@ -1,7 +1,7 @@
 #!/usr/bin/env bash
 # Builds the examples in C, Rust and Python over the static library, runs them, and compares what they print with
-# examples/embed/login.out. What isn't installed is passed by, with a word.
-#   tests/embed.sh [ARCHIVE]     the archive that `rt lib` makes in crates/layout_c, unless another is named
+# examples/embed/login.out. If a compiler isn't installed, it says so and goes on.
+#   tests/embed.sh [ARCHIVE]     by default the archive that `rt lib` makes in crates/layout_c
 cd "$(dirname "$0")/.." || exit
 top=$PWD
 archive=$(realpath "${1:-crates/layout_c/out/liblayout_c.a}")

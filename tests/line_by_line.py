@@ -1,9 +1,9 @@
 #!/usr/bin/env python3
-"""line_by_line.py [PROGRAM..]: runs the program (`PROGRAM.. run`) over pipes, and tells what isn't as it should be.
+"""line_by_line.py [PROGRAM..]: runs the program (`PROGRAM.. run`) over pipes, and reports each wrong answer.
 
-It writes a line, waits for its reply, and only then writes the next one; cuts a script into pieces of 1, 2 and 5 bytes;
-writes lines and inputs about their limits; closes the output, has it full, and has an input that can't be read. It
-needs the built program: one that is tried unproved gets its input whole."""
+It writes a line, waits for its reply, and only then writes the next one. It cuts a script into pieces of 1, 2 and 5 bytes,
+and writes lines and inputs near their limits. It closes the output, fills it, and gives an input that can't be read. It
+needs the built program, because `rt try` passes on the input as a whole."""
 import array
 import fcntl
 import os

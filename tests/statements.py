@@ -1,12 +1,12 @@
 #!/usr/bin/env python3
-"""Checks functions of a crate while those below it are still being proved, over libraries of statements.
+"""Checks functions of a crate over libraries of statements, while the crates below it are still being proved.
 
-    tests/statements.py make POOL CRATE..             builds libraries of these crates into POOL, each over what POOL holds
+    tests/statements.py make POOL CRATE..             builds libraries of these crates into POOL, over those already there
     tests/statements.py check POOL CRATE [FUNCTION..] checks these functions and what they call, or all, over POOL
 
-A library of statements has a crate's contracts, definitions and lemmas, which are checked, and no bodies and answers. Make
-them lowest first. FUNCTION is a path below the crate, as `module::Type::method`, and '' checks clauses and definitions
-alone. What was checked is kept in POOL. Nothing that is checked so is proved: only the gate says that.
+A library of statements has a crate's contracts, definitions and lemmas, which are checked, and no bodies or answers. Make
+the lowest first. FUNCTION is a path below the crate, such as `module::Type::method`; '' checks only clauses and definitions.
+Results are kept in POOL. They aren't proofs: only the gate proves.
 """
 import os, re, shutil, subprocess, sys, tempfile
 

@@ -1,7 +1,7 @@
 #!/usr/bin/env bash
-# wrong_bodies.sh CRATE..: has the prover try all wrong bodies of these crates, with those too dear for each gate.
-# The latter stand beside, in wrong_bodies/CRATE, and in crates/CRATE/must-fail only while this runs. The libraries
-# below are proved first, where `rt check` hasn't. The status is 0 where each body is refused.
+# wrong_bodies.sh CRATE..: lets the prover try all wrong bodies of these crates, also those that are too dear for each gate.
+# Those are in wrong_bodies/CRATE, and in crates/CRATE/must-fail only while this runs. The libraries below are proved first,
+# unless `rt check` has done it. The status is 0 if each body is refused.
 set -e
 cd "$(dirname "$0")/.."
 for crate in "${@:-none}"; do
