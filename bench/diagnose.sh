@@ -1,8 +1,8 @@
 #!/bin/sh
-# What a probe costs on average, and a row of `constrain` that joins the same scene, in instructions.
+# Prints the average cost of a probe, and the cost of a row of `constrain` that joins the same scene, in instructions.
 # Usage: bench/diagnose.sh PROGRAM
 #
-# It needs valgrind. An attribute has one probe where it moves up, and two otherwise.
+# It needs valgrind. An attribute has one probe if it can move up, and two otherwise.
 set -eu
 here=$(cd "$(dirname "$0")" && pwd)
 program=$1

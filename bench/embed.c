@@ -3,10 +3,10 @@
        cc -Iexamples/embed bench/embed.c ARCHIVE KIT/c/liblibc_c.a -o embed
        valgrind --tool=callgrind ./embed WHAT TIMES < examples/embed/form.script
 
-   WHAT is `none`, `resize` (a window of one of two sizes in turn, and which views it moved), `suggest` (a width, which
-   is another one each time), `remove` (a line that joins and leaves again) or `turns` (one of each, and at the end the
-   most memory that the process had, in kibibytes). The form is there before that. ARCHIVE is
-   what `rt lib` makes in crates/layout_c, and KIT the folder of the first line that `rt doc` prints. */
+   WHAT is `none`, `resize` (a window of one of two sizes in turn, and the views that it moved), `suggest` (a new width
+   each time), `remove` (a line that joins and leaves again) or `turns` (one of each, and at the end the peak memory of the
+   process in kibibytes). The form is read before that. ARCHIVE is the archive that `rt lib` makes in crates/layout_c, and
+   KIT the folder of the first line that `rt doc` prints. */
 #include "layout.h"
 #include <stdio.h>
 #include <stdlib.h>

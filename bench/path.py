@@ -1,8 +1,8 @@
 """Writes a problem with the path of a refusal, as `layout check` reads it: python3 bench/path.py LAYOUT SEED VIEWS.
 
-LAYOUT is the proved program. The script is that of `made` without the `undo` at its end (`scripts.py changes`); behind it
-a wish for half of the last view's width comes with a budget of one exchange, which it spends. The problem is that of the
-step: the rows that are held and the wish, with the stays at the values before it.
+LAYOUT is the proved program. The script is the one of `made` without the `undo` at its end (`scripts.py changes`). After it
+comes a wish for half of the last view's width, with a budget of one exchange, which it spends. The problem has the rows that
+are held and the wish, with the stays at the values before it.
 """
 import os
 import subprocess

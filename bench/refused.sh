@@ -1,13 +1,12 @@
 #!/bin/sh
 # Refuses the program's first growth of memory, then in another run the second, and so on, over a script. Each run must
-# write a prefix of what it writes with ample memory and end with the status 5, or write all of it and end as with ample
-# memory.
+# write a prefix of the full output and end with the status 5, or write all of it and end as with ample memory.
 # Usage: bench/refused.sh [PROGRAM [SCRIPT]]
 #
-# The program takes memory from the C library. A small library of C that is loaded before it, and which the compiler cc
-# makes, counts the growths and refuses one. Without SCRIPT there are three scripts: in the first two lines join, one
-# leaves, and that is taken back; the second has wishes that aren't met, a conflict, and `diagnose`; the third has
-# `certify`. The last line tells how many growths were refused in all.
+# The program takes memory from the C library. A small C library that is loaded before it counts the growths and refuses
+# one; cc compiles it. Without SCRIPT there are three scripts. In the first, two lines join, one leaves, and that is taken
+# back. The second has unmet wishes, a conflict, and `diagnose`. The third has `certify`. The last line prints how many
+# growths were refused in all.
 set -eu
 here=$(cd "$(dirname "$0")" && pwd)
 program=${1:-$here/../crates/layout/out/layout}

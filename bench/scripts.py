@@ -4,13 +4,13 @@
     python3 bench/scripts.py made SEED VIEWS      the script that `layout make SEED VIEWS` runs
     python3 bench/scripts.py resize TIMES         the login form of examples/, then so many windows of two sizes in turn
     python3 bench/scripts.py frames TIMES         the same with `frames` after each window
-    python3 bench/scripts.py row VIEWS WHAT       a chain, and behind it nothing (`none`), one row more (`add`), or one row that
+    python3 bench/scripts.py row VIEWS WHAT       a chain, and after it nothing (`none`), one row more (`add`), or one row that
                                                   joins and leaves again (`remove`)
     python3 bench/scripts.py diagnose VIEWS       a chain, `frames` and `diagnose`
     python3 bench/scripts.py drag TIMES           the login form, then so many suggestions of one width, and its release
     python3 bench/scripts.py changes SEED VIEWS   the script of `made` without the `undo` at its end
     python3 bench/scripts.py metric VIEWS TIMES   a chain, two rows that name a metric, and then so many values of it in turn
-    python3 bench/scripts.py widths WHAT          the login form in version 2, and behind it nothing (`none`), a sweep of its widths
+    python3 bench/scripts.py widths WHAT          the login form in version 2, and after it nothing (`none`), a sweep of its widths
                                                   from 320 to 2000 (`sweep`), or a window of each of these (`windows`)
     python3 bench/scripts.py bends VIEWS WHAT     a row of views with preferred widths, and behind it nothing (`none`), or a sweep
                                                   of its widths from 0 to 100 times as many as there are views (`sweep`)

@@ -4,8 +4,8 @@
 #   (cd crates/layout && rt run -- run) < examples/windows.script
 # Usage: bench/scripts.sh [PROGRAM [TURNS]]
 #
-# For each script it prints the time of a whole process (the least of TURNS, or 5), and, where valgrind is there, the
-# instructions that it executes and the functions that take most of them.
+# For each script it prints the time of a whole process (the least of TURNS, by default 5). If valgrind is installed, it
+# also prints the instructions, and the functions that take most of them.
 set -eu
 here=$(cd "$(dirname "$0")" && pwd)
 program=${1:-$here/../crates/layout/out/layout}

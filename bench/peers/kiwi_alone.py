@@ -2,10 +2,10 @@
 
     python3 kiwi_alone.py OPERATIONS
 
-It runs kiwi_peer.py over the operations under valgrind's callgrind, with the python3 that runs it itself, and adds up
-what the solver's methods cost with all that they call, by the calls that come from outside the binding's module. The
-module has no symbols: where a method begins is read from its table of methods, in which each name stands before its
-address. What python does, and the making of terms and constraints, isn't counted.
+It runs kiwi_peer.py over the operations under valgrind's callgrind, with the same python3, and adds up the costs of the
+solver's methods with everything that they call, by the calls from outside the binding's module. The module has no symbols, so
+the beginning of a method is read from its table of methods, where each name is before its address. The work of python, and
+the making of terms and constraints, isn't counted.
 """
 import os
 import re

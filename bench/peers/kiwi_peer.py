@@ -1,9 +1,8 @@
-"""Gives operations to kiwi, by its binding `kiwisolver` of Debian's python3-kiwisolver.
+"""Gives operations to kiwi, by its Python binding `kiwisolver`.
 
     python3 kiwi_peer.py OPERATIONS [read | values]
 
-With `read` the operations are read and nothing is solved, so that the reading can be taken off. With `values` the
-values are printed.
+With `read` it only reads the operations, so that the cost of reading can be subtracted. With `values` it prints the values.
 """
 import sys
 

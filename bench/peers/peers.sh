@@ -1,14 +1,13 @@
 #!/bin/sh
-# Measures `make` of the built program as a whole process, and two float engines on the same scripts where they are.
+# Measures `make` of the built program as a whole process, and two float engines on the same scripts if they are installed.
 # Build the program first, from the top of the repository:
 #   (cd crates/layout && rt run -- run) < examples/windows.script
 # Usage: bench/peers/peers.sh [PROGRAM [CASSOWARY [KIWI]]]
 #
-# CASSOWARY is the folder that has the source of the crate cassowary 0.3.0, as Debian's package librust-cassowary-dev
-# lays it down. KIWI is a python3 that has kiwisolver, as the package python3-kiwisolver brings it to Debian's python3;
-# it is python3 where it isn't given. For each number of views it prints the least time of a whole process of TURNS
-# (20), and the instructions where valgrind is there. The engines' own reading of the operations is taken off theirs.
-# Of kiwi also what its C++ takes alone, without python and the making of terms and constraints (kiwi_alone.py).
+# CASSOWARY is the folder with the source of the crate cassowary 0.3.0. KIWI is a python3 that has kiwisolver, by default
+# python3. For each number of views it prints the least time of a whole process of TURNS (20), and the instructions if
+# valgrind is installed. The cost of reading the operations is subtracted from the engines'. For kiwi it also prints the
+# cost of its C++ alone, without python and the making of terms and constraints (kiwi_alone.py).
 set -eu
 here=$(cd "$(dirname "$0")" && pwd)
 program=${1:-$here/../../crates/layout/out/layout}
