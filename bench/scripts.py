@@ -12,10 +12,10 @@
     python3 bench/scripts.py metric VIEWS TIMES   a chain, two rows that name a metric, and then so many values of it in turn
     python3 bench/scripts.py widths WHAT          the login form in version 2, and after it nothing (`none`), a sweep of its widths
                                                   from 320 to 2000 (`sweep`), or a window of each of these (`windows`)
-    python3 bench/scripts.py bends VIEWS WHAT     a row of views with preferred widths, and behind it nothing (`none`), or a sweep
+    python3 bench/scripts.py bends VIEWS WHAT     a row of views with preferred widths, and after it nothing (`none`), or a sweep
                                                   of its widths from 0 to 100 times as many as there are views (`sweep`)
     python3 bench/scripts.py deep VIEWS           a chain, and a row of each of 900 priorities on its widths
-    python3 bench/scripts.py flush VIEWS WHAT     a row of views without widths between the window's sides, and behind it nothing
+    python3 bench/scripts.py flush VIEWS WHAT     a row of views without widths between the window's sides, and after it nothing
                                                   (`none`), or `diagnose`
     python3 bench/scripts.py certify VIEWS        a chain and `certify`
     python3 bench/scripts.py keep VIEWS NUMBER    a chain, and `keep` of the view of this number
