@@ -1,7 +1,8 @@
 #!/usr/bin/env python3
-"""pages.py [PROGRAM [SVG]]: runs the scripts that the pages show, and those in examples/, and reports each reply that differs.
+"""pages.py [PROGRAM [SVG [TELL]]]: runs the scripts that the pages show, and those in examples/, and reports each difference.
 
 PROGRAM is crates/layout/out/layout if none is given. SVG is `layout_svg`; with it the drawings in examples/ are compared too.
+TELL is `layout_tell`; with it the findings that the guide shows are compared too.
 
 A script is an indented block that begins with a command: the left column is sent, the right one comes back. `..` stands for
 lines left out, `ok` is left out everywhere, and so may any line of `frames` be. A block continues the session before it or
@@ -17,6 +18,7 @@ import sys
 TOP = os.path.join(os.path.dirname(os.path.abspath(__file__)), "..")
 PROGRAM = os.path.abspath((sys.argv[1:] or [f"{TOP}/crates/layout/out/layout"])[0])
 SVG = os.path.abspath(sys.argv[2]) if sys.argv[2:] else None
+TELL = os.path.abspath(sys.argv[3]) if sys.argv[3:] else None
 PAGES = ["README.md", "docs/GUIDE.md", "docs/LANGUAGE.md"]
 SCREEN = re.compile(r"\[\w+\.script\]\(\.\./(examples/\w+)\.script\)")
 WORDS = """layout view tree drop metric window vfl constrain remove suggest release direction size unsize keep undo budget
@@ -119,6 +121,16 @@ def stale_examples():
     return stale
 
 
+def missing_findings():
+    """The lines that the guide shows of the findings on its script, and `layout_tell` doesn't print."""
+    with open("docs/GUIDE.md", encoding="utf-8") as page:
+        section = page.read().partition("## When a line is refused")[2]
+    script, shown = ([line[4:] for line in block.split("\n")] for block in re.findall(r"(?m)(?:^    .*\n)+", section)[:2])
+    done = subprocess.run([TELL], input="\n".join(script), capture_output=True, text=True, check=False)
+    there = done.stdout.split("\n") + [".."]
+    return [line for line in shown if line not in there]
+
+
 def main():
     os.chdir(TOP)
     count, wrong, session = 0, 0, []
@@ -146,8 +158,11 @@ def main():
     stale = stale_examples()
     for path in stale:
         print(f"{path}: the program gives something else")
+    findings = missing_findings() if TELL else []
+    for line in findings:
+        print(f"docs/GUIDE.md: layout_tell doesn't print: {line}")
     print(f"{count} blocks, {wrong} not as shown; {len(stale)} files of examples/ not as stored")
-    sys.exit(1 if wrong or stale else 0)
+    sys.exit(1 if wrong or stale or findings else 0)
 
 
 main()
