@@ -97,17 +97,10 @@ pub fn unfit_from_value()
     ensures { UnfitFromValue }
 {}
 
-/// The order of a corner's marks is free.
+/// The order of a corner's marks is free: in another order they are a corner too, each outside mark can
+/// grow alone, and equations hold.
 pub fn same_marks_are_corner()
-    ensures { SameMarksAreCorner }
-{}
-
-/// Each outside mark can grow alone, whatever the order.
-pub fn same_marks_have_rays()
-    ensures { SameMarksHaveRays }
-{}
-
-/// Equations hold whatever the order.
-pub fn same_marks_keep_equations()
-    ensures { SameMarksKeepEquations }
+    ensures corner { SameMarksAreCorner }
+    ensures rays { SameMarksHaveRays }
+    ensures equations { SameMarksKeepEquations }
 {}

@@ -8,14 +8,11 @@ ghost use Rattle.corner_lines.specs.JoinLaws.{PathBeginsWithNone, StoodClearsSta
 ghost use Rattle.corner_lines.specs.JoinLaws.{StoodIsCorner, StoodKeepsAttrs, StoodKeepsRows, TermsAreUnfit};
 ghost use Rattle.corner_lines.specs.JoinLaws.{TermsGiveDeviation, TermsGoOn};
 
-/// A corner with a new row's over mark is a corner of the problem with the row.
+/// A corner with a new row's over mark is a corner of the problem with the row, and each outside mark can
+/// grow alone there too.
 pub fn joined_is_corner()
-    ensures { JoinedIsCorner }
-{}
-
-/// Each outside mark can grow alone there too.
-pub fn joined_has_rays()
-    ensures { JoinedHasRays }
+    ensures corner { JoinedIsCorner }
+    ensures rays { JoinedHasRays }
 {}
 
 /// All equations hold there in which the row doesn't stand.
@@ -53,14 +50,10 @@ pub fn joined_turns()
     ensures { JoinedTurns }
 {}
 
-/// A corner with a new row's under mark is a corner too.
+/// A corner with a new row's under mark is a corner too, and each outside mark can grow alone there.
 pub fn joined_under_is_corner()
-    ensures { JoinedUnderIsCorner }
-{}
-
-/// Each outside mark can grow alone there.
-pub fn joined_under_has_rays()
-    ensures { JoinedUnderHasRays }
+    ensures corner { JoinedUnderIsCorner }
+    ensures rays { JoinedUnderHasRays }
 {}
 
 /// All equations are as where the row is over.
@@ -68,14 +61,11 @@ pub fn joined_under_keeps_equations()
     ensures { JoinedUnderKeepsEquations }
 {}
 
-/// A corner is one of the problem with a new attribute, whose stay is outside.
+/// A corner is a corner of the problem with a new attribute, whose stay is outside, and each outside mark
+/// can grow alone there too.
 pub fn attr_joins_corner()
-    ensures { AttrJoinsCorner }
-{}
-
-/// Each outside mark can grow alone there too.
-pub fn attr_joins_rays()
-    ensures { AttrJoinsRays }
+    ensures corner { AttrJoinsCorner }
+    ensures rays { AttrJoinsRays }
 {}
 
 /// All equations hold there in which the new stay doesn't stand.
@@ -88,14 +78,11 @@ pub fn attr_is_own_deviation()
     ensures { AttrIsOwnDeviation }
 {}
 
-/// Where the stays move to the values at a corner, it stays one.
+/// If the stays move to the values at a corner, it stays a corner, and each outside mark can still grow
+/// alone.
 pub fn stood_is_corner()
-    ensures { StoodIsCorner }
-{}
-
-/// Each outside mark can still grow alone.
-pub fn stood_has_rays()
-    ensures { StoodHasRays }
+    ensures corner { StoodIsCorner }
+    ensures rays { StoodHasRays }
 {}
 
 /// The attributes' equations stay as they are.

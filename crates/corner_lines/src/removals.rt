@@ -5,14 +5,11 @@ ghost use Rattle.corner_lines.specs.RemovalLaws.{WithoutAttrKeepsAttrs, WithoutA
 ghost use Rattle.corner_lines.specs.RemovalLaws.{WithoutRowHasRays, WithoutRowIsCorner, WithoutRowKeepsAttrs};
 ghost use Rattle.corner_lines.specs.RemovalLaws.{WithoutRowKeepsLines};
 
-/// Without a row whose mark is inside, the other marks are a corner.
+/// Without a row whose mark is inside, the other marks are a corner, and each outside mark can still grow
+/// alone.
 pub fn without_row_is_corner()
-    ensures { WithoutRowIsCorner }
-{}
-
-/// Each outside mark can still grow alone.
-pub fn without_row_has_rays()
-    ensures { WithoutRowHasRays }
+    ensures corner { WithoutRowIsCorner }
+    ensures rays { WithoutRowHasRays }
 {}
 
 /// The attributes' equations stay as they are.
@@ -25,14 +22,11 @@ pub fn without_row_keeps_lines()
     ensures { WithoutRowKeepsLines }
 {}
 
-/// The marks are a corner without an attribute that no row names.
+/// The marks are a corner without an attribute that no row names, and each outside mark can still grow
+/// alone.
 pub fn without_attr_is_corner()
-    ensures { WithoutAttrIsCorner }
-{}
-
-/// Each outside mark can still grow alone.
-pub fn without_attr_has_rays()
-    ensures { WithoutAttrHasRays }
+    ensures corner { WithoutAttrIsCorner }
+    ensures rays { WithoutAttrHasRays }
 {}
 
 /// The stay of such an attribute is outside.

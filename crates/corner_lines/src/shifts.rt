@@ -2,14 +2,10 @@
 ghost use Rattle.corner_lines.specs.ShiftLaws.{ShiftMovesAttrs, ShiftMovesLines, ShiftMovesRow};
 ghost use Rattle.corner_lines.specs.ShiftLaws.{ShiftedHasRays, ShiftedIsCorner};
 
-/// The marks stay a corner where a row's constant changes.
+/// If a row's constant changes, the marks stay a corner, and each outside mark can still grow alone.
 pub fn shifted_is_corner()
-    ensures { ShiftedIsCorner }
-{}
-
-/// Each outside mark can still grow alone.
-pub fn shifted_has_rays()
-    ensures { ShiftedHasRays }
+    ensures corner { ShiftedIsCorner }
+    ensures rays { ShiftedHasRays }
 {}
 
 /// An attribute's equation keeps its numbers, and its value grows by the row's.
