@@ -1,4 +1,4 @@
--- Which lines and texts are claims, and what a reader of them has seen.
+-- Which lines and texts are claims, and the state of a reader of them.
 pub mod ClaimTexts
 pub mod Seen
 pub mod ClaimForms

@@ -1,4 +1,4 @@
--- The input of a check: the lines of a problem, and those of a claim.
+-- The input of a check: the lines of a problem, and the lines of a claim.
 use Rattle.std.specs.Prelude.{◌≡◌, ◌⊎◌, ℕ, List, [], ◌∷◌, ◌++◌, All, codes}
 use Rattle.span_text.specs.TextCuts.Words.{words_of}
 

@@ -3,7 +3,7 @@ use Rattle.std.specs.Prelude.{◌≡◌, ◌⊎◌, ℕ, ◌<◌, ◌≤◌, Lis
 use Rattle.std.specs.Str.Lines.{lines}
 use Rattle.claim_text.specs.Cut.{BeginsClaim}
 
--- what follows the text begins a line
+-- the text ends where a line begins
 abbrev pub EndsBetweenLines : List ℕ → Type 0
 EndsBetweenLines text = (more : List ℕ) → lines (text ++ more) ≡ lines text ++ lines more
 

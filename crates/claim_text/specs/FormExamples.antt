@@ -3,7 +3,7 @@ use Rattle.std.specs.Prelude.{ℕ, [], ◌∷◌}
 use Rattle.claim_text.specs.Claims.ClaimForms.{IsFirstOutside}
 use Rattle.problem_reading.specs.ProblemForms.{IsFirstOutsideProblem}
 
--- no line is no claim, for want of `best`, and is a problem; a line of another byte is none
+-- no lines at all are a problem, and no claim, because `best` is missing; a line of another byte is no problem
 pub record SomeAreOutside : Type 0 where
   pub early : IsFirstOutside [] 1
   pub no_later : IsFirstOutside [] 2 → ⊥

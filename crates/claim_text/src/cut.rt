@@ -55,7 +55,7 @@ fn line_length(text: &[u8]) -> usize
     }
 }
 
-// Where a claim begins, and the count of lines before.
+// The place where a claim begins, and the count of lines before it.
 #[derive(Clone, Copy)]
 struct ClaimStart {
     at: usize,
@@ -80,7 +80,7 @@ fn claim_start(input: &[u8]) -> ClaimStart
     ClaimStart { at, count }
 }
 
-// Where the last line of a text that isn't empty begins.
+// The place where the last line of a text that isn't empty begins.
 fn last_line_start(text: &[u8]) -> usize
     requires { 0 < length text.now }
     ensures { IsLastStart text.now result }
@@ -122,8 +122,8 @@ fn without_ok(text: &[u8]) -> &[u8]
     }
 }
 
-/// Cuts the input of a check: the problem is what stands before the first line whose first word is `value`,
-/// `best`, `conflict` or `path`, and the claim is the rest without an ending line `ok`.
+/// Cuts the input of a check. The problem is the text before the first line whose first word is `value`,
+/// `best`, `conflict` or `path`. The claim is the rest without an ending line `ok`.
 pub fn cut_input(input: &[u8]) -> CheckInput<'_>
     requires { length input.now < TEXT_LIMIT }
     ensures cut { IsCut (lines input.now) (lines result.problem.now) (lines result.claim.now) }

@@ -9,8 +9,8 @@ pub fn claims_are_the_form()
     ensures { ClaimsAreTheForm }
 {}
 
-/// No line is no claim, for want of `best`, and is a problem; a line of another byte is none. Some lines are
-/// paths, and each rule of their form puts some others outside.
+/// No lines at all are a problem, and no claim, because `best` is missing. A line of another byte is no
+/// problem. Some lines are paths, and each rule of their form puts some others outside.
 pub fn some_lines_are_outside()
     ensures some { SomeAreOutside }
     ensures inside { SomePathsAreInside }

@@ -1,8 +1,8 @@
 //! The reader of claims, and the cut of a check's input into a problem and a claim.
 //!
-//! What a session writes of a scene can be kept, sent and checked by another program: `claim_writing` says
-//! what such texts look like, and writes them. The reader takes exactly what is written there. To anything
-//! else it answers with the number of the first line outside the form.
+//! A session's claims about a scene can be kept, sent and checked by another program. `claim_writing` defines
+//! the form of such texts, and writes them. The reader takes exactly the texts of that form. For any other
+//! text the answer is the number of the first line outside the form.
 //!
 //! ```
 //! // of the text `row 1 1000 1 >= 1 5 1:1`, `stay 1 0`, and then `value 1 5`, `best`, `level s1 1`,
@@ -12,14 +12,14 @@
 //! let claim = read_claim(alloc, input.claim)?;     // Claim::IsBest; BadLine(3) for a level without scale
 //! ```
 //!
-//! [`cut_input`] cuts such an input in two, and [`read_claim`] reads the claim; `read_problem` is that of
+//! [`cut_input`] cuts such an input in two, and [`read_claim`] reads the claim. `read_problem` is in
 //! `problem_reading`. The laws say that the lines that are read as a claim are exactly that claim's lines,
 //! and that the line at which the reader stops is the first outside the form.
 //!
-//! Invariant (`IsDraft`): while a claim is read, what was read has the order in which a claim is written:
-//! values by rising attribute, levels and rows each once and as `claim::order` has them.
+//! Invariant (`IsDraft`): while a claim is read, its parts so far have the order in which a claim is written:
+//! values by rising attribute, levels and rows each once and in the order of `claim::order`.
 //!
-//! Modules in reading order: `claim::fields`, `claim::path_lines` and `claim::lines` (what a line says),
+//! Modules in reading order: `claim::fields`, `claim::path_lines` and `claim::lines` (the content of a line),
 //! `claim::order` and `claim::seen` (the stays named so far), `claim::path_draft` and `claim::draft` (a claim
 //! while it is read), `claim::reader`. `cut` (the input of a check); `form_laws`.
 #![tactic(auto)]

@@ -1,4 +1,4 @@
--- What terms add to a row: to the coefficient of each attribute, and to the constant.
+-- The contribution of terms to a row: to the coefficient of each attribute, and to the constant.
 use Rattle.std.specs.Prelude.{ℕ, List, map, take, ⊤}
 use Rattle.frac_core.specs.Fraction.{Fraction}
 use Rattle.problem_core.specs.Window.{zero_fraction}
@@ -11,16 +11,16 @@ use Rattle.compile_parts.specs.Shares.{share_fraction, AreHalves}
 use Rattle.compile_parts.specs.declared.addends.Addend as declared_addend
 use Rattle.compile_parts.specs.declared.addends.Addend.TheVariants as code
 
--- what a term adds
+-- the contribution of a term
 pub record Addend : Type 0 where
   pub share : ℕ → Fraction
   pub part : Part
 
--- what the term adds where these views are live
+-- the contribution of the term, if these views are live
 abbrev pub addend : List LiveView → Term → Addend
 addend views t = record { share = (λ v. share views v t); part = meaning.part t }
 
--- what the terms add, in order
+-- the contributions of the terms, in order
 abbrev pub addends : List LiveView → List Term → List Addend
 addends views terms = map (addend views) terms
 
@@ -45,18 +45,18 @@ share_in (code.Number by) = λ v. zero_fraction
 share_in (code.Multiple by name) = λ v. zero_fraction
 share_in code.Nothing = λ v. zero_fraction
 
--- what the addend adds to the constant
+-- the addend's contribution to the constant
 abbrev pub part_in : declared_addend.Addend → Part
 part_in (code.Attr s) = Nothing
 part_in (code.Number by) = Number by
 part_in (code.Multiple by name) = Multiple by name.now
 part_in code.Nothing = Nothing
 
--- what the addend adds in all
+-- the addend's contribution in all
 abbrev pub addend_view : declared_addend.Addend → Addend
 addend_view a = record { share = share_in a; part = part_in a }
 
--- what the addends add, in order
+-- the addends' contributions, in order
 abbrev pub addends_view : List declared_addend.Addend → List Addend
 addends_view added = map addend_view added
 

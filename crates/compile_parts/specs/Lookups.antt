@@ -1,4 +1,4 @@
--- What the names of terms are looked up as.
+-- The results of looking up the names of terms.
 use Rattle.std.specs.Prelude.{◌≡◌, ℕ, List, Option, Some, map, ⊤}
 use Rattle.std.specs.Option.{option_map, option_to_list}
 use Rattle.view_tree.specs.Views.{LiveView}

@@ -1,4 +1,4 @@
--- What a linear line means, for a list of views and a list of metrics.
+-- The meaning of a linear line, for a list of views and a list of metrics.
 use Rattle.std.specs.Prelude.{◌≡◌, ℕ, ◌*◌, ◌/◌, ◌<◌, ◌≤◌, List, [], ◌∷◌, ◌++◌, map, Option}
 use Rattle.std.specs.Prelude.{Some, None, is_some, Bool, true, false, ◌||◌, pos, ◌*ℤ◌}
 use Rattle.std.specs.List.{list_any}
@@ -35,7 +35,7 @@ across scale edge size = record { scale = scale; edge = edge; size = size; is_ac
 abbrev pub down : ℕ → ℕ → ℕ → AttrSum
 down scale edge size = record { scale = scale; edge = edge; size = size; is_across = false }
 
--- an attribute by the attributes that are kept, with the least scale for which both factors are whole
+-- an attribute by the four kept ones, with the least scale for which both factors are whole
 abbrev pub attr_sum : AttrWord → AttrSum
 attr_sum word.Left = across 1 1 0
 attr_sum word.Leading = across 1 1 0
@@ -67,7 +67,7 @@ edge_and_size is_across view edge size = record { attr = edge_in is_across view;
 abbrev pub twice : AttrSum → ℕ → List Term
 twice s view = edge_and_size s.is_across view (2 / s.scale * s.edge) (2 / s.scale * s.size)
 
--- twice an attribute of a view, by the attributes that are kept
+-- twice an attribute of a view, by the four kept ones
 abbrev pub doubled : ℕ → AttrWord → List Term
 doubled view w = twice (attr_sum w) view
 
@@ -81,11 +81,11 @@ minus t = record { by = negated t.by; of = t.of }
 abbrev pub HasDenominator : mean.Term → Type 0
 HasDenominator t = 0 < t.by.den
 
--- all terms of the line brought to its left side, in the order written
+-- all terms of the line brought to its left side, in the order of the text
 abbrev pub terms_of : Linear → List mean.Term
 terms_of l = l.left ++ map minus l.right
 
--- how often so many times an attribute of the view has the attribute v; 0 where there is no view
+-- how often so many times an attribute of the view has the attribute v; 0 if there is no view
 abbrev pub share_in : Option LiveView → Fraction → AttrWord → ℕ → Fraction
 share_in None by word v = zero_fraction
 share_in (Some view) by word v = record {
@@ -109,28 +109,28 @@ sum_at views terms v = total (share views v) terms
 
 -- ---- constants
 
--- what a term adds to the constant: nothing, a number, or a multiple of a metric
+-- the contribution of a term to the constant: nothing, a number, or a multiple of a metric
 pub data Part : Type 0 where
   Nothing : Part
   Number : Fraction → Part
   Multiple : Fraction → List ℕ → Part
 
--- what so many times an operand adds to the constant
+-- the contribution of so many times an operand to the constant
 abbrev pub part_of : Fraction → Operand → Part
 part_of by (mean.Attr name word) = Nothing
 part_of by (mean.Metric name) = Multiple by name
 part_of by mean.One = Number by
 
--- what the term adds to the constant
+-- the contribution of the term to the constant
 abbrev pub part : mean.Term → Part
 part t = part_of t.by t.of
 
--- so many times the metric's value, and 0 where there is no metric
+-- so many times the metric's value, and 0 if there is no metric
 abbrev pub value_in : Option Fraction → Fraction → Fraction
 value_in None by = zero_fraction
 value_in (Some value) by = times by value
 
--- what the part adds to the constant for these metrics
+-- the contribution of the part to the constant, for these metrics
 abbrev pub part_value : MetricList → Part → Fraction
 part_value metrics Nothing = zero_fraction
 part_value metrics (Number by) = by
@@ -147,19 +147,19 @@ abbrev pub unless : Bool → List ℕ → Option (List ℕ)
 unless true name = None
 unless false name = Some name
 
--- the name in an operand that must be a view's or a metric's, and isn't
+-- the name in an operand that must be a view's or a metric's and isn't
 abbrev pub unknown_in : List LiveView → MetricList → Operand → Option (List ℕ)
 unknown_in views metrics (mean.Attr name word) = unless (is_some (view_named views name)) name
 unknown_in views metrics (mean.Metric name) = unless (is_named views metrics name) name
 unknown_in views metrics mean.One = None
 
--- the name in an object or a priority that is no view's and no metric's
+-- the name in an object or a priority that is neither a view's nor a metric's
 abbrev pub unknown_object : List LiveView → MetricList → Option Meant → Option (List ℕ)
 unknown_object views metrics (Some (object.Name name)) = unless (is_named views metrics name) name
 unknown_object views metrics (Some (object.Number z)) = None
 unknown_object views metrics None = None
 
--- the first name in the terms that must be a view's or a metric's, and isn't
+-- the first name in the terms that must be a view's or a metric's and isn't
 abbrev pub unknown_among : List LiveView → MetricList → List mean.Term → Option (List ℕ)
 unknown_among views metrics [] = None
 unknown_among views metrics (t ∷ ts) = option_or (unknown_in views metrics t.of)
@@ -170,17 +170,17 @@ abbrev pub first_unknown : List LiveView → MetricList → Linear → Option (L
 first_unknown views metrics l = option_or (unknown_among views metrics (terms_of l))
     (unknown_object views metrics l.priority)
 
--- a view stands for a number
+-- the operand names a view in place of a number
 abbrev pub is_view_number : List LiveView → Operand → Bool
 is_view_number views (mean.Attr name word) = false
 is_view_number views (mean.Metric name) = is_some (view_named views name)
 is_view_number views mean.One = false
 
--- in one of the terms a view stands for a number
+-- one of the terms names a view in place of a number
 abbrev pub has_view_number : List LiveView → List mean.Term → Bool
 has_view_number views terms = list_any (λ t. is_view_number views t.of) terms
 
--- r is the rank of a row that is asked for, or of a required one
+-- r is the rank of a row that may be asked for, or of a required one
 abbrev pub IsRowRank : ℕ → Type 0
 IsRowRank r = (0 < r) × (r ≤ REQUIRED)
 
@@ -188,7 +188,7 @@ IsRowRank r = (0 < r) × (r ≤ REQUIRED)
 abbrev pub IsWeight : ℕ → Type 0
 IsWeight w = (0 < w) × (w ≤ WEIGHT_LIMIT)
 
--- the rank that a priority stands for
+-- the rank of a priority
 abbrev pub IsRank : List LiveView → MetricList → Option Meant → ℕ → Type 0
 IsRank views metrics None r = r ≡ REQUIRED
 IsRank views metrics (Some (object.Number z)) r = (z ≡ pos (r * UNIT)) × IsRowRank r

@@ -1,4 +1,4 @@
--- What a term has of the attributes, as the code keeps it.
+-- A term's shares of the attributes, as the code keeps them.
 use Rattle.std.specs.Prelude.{◌≢◌, ℕ, ◌+◌, ◌*◌, ◌<◌, ◌≤◌, List, [], ◌∷◌, ◌*ℤ◌, unsigned_abs, All}
 use Rattle.frac_core.specs.Fraction.{Fraction}
 use Rattle.problem_core.specs.declared.parts.Term.{Term}

@@ -1,10 +1,10 @@
--- The steps of a constant: what each term adds to it, and the row's scale behind the term.
+-- The steps of a constant: the contribution of each term to it, and the row's scale after the term.
 use Rattle.std.specs.Prelude.{ℕ, ◌+◌, ◌<◌, List, [], ◌∷◌, length, take, slice_index_or}
 use Rattle.frac_core.specs.Fraction.{Fraction}
 use Rattle.compile_parts.specs.Fractions.{total, IsSmallConstant}
 use Rattle.compile_parts.specs.Meaning.{Part, MetricList, part_value}
 
--- the scale of the row after a term, and what the term adds to the constant
+-- the scale of the row after a term, and the term's contribution to the constant
 pub record Step : Type 0 where
   pub scale : ℕ
   pub part : Part

@@ -1,4 +1,4 @@
-// What terms add to a row, with no name of a view left.
+// The contribution of each term to a row, without names of views.
 ghost use Rattle.std.specs.Prelude.{◌≡◌, ℕ, IfSome, IfNone};
 ghost use Rattle.problem_core.specs.Window.{zero_fraction};
 ghost use Rattle.compile_parts.specs.Shares.{share_fraction, AreHalves};
@@ -7,7 +7,7 @@ ghost use Rattle.compile_parts.specs.Addends.{addend_view, IsKept};
 use crate::shares::Share;
 use frac_core::Frac;
 
-/// What a term adds to a row.
+/// The contribution of a term to a row.
 #[derive(Clone, Copy)]
 pub enum Addend<'a> {
     /// So many times an attribute of a view.
@@ -21,7 +21,7 @@ pub enum Addend<'a> {
 }
 
 impl Addend<'_> {
-    /// What it has of the attributes of views.
+    /// The contribution to the coefficients of attributes.
     pub fn share(&self) -> Option<Share>
         requires { IsKept self.now }
         ensures some { IfSome result (λ s. (v : ℕ) → (addend_view self.now).share v ≡ share_fraction s v) }

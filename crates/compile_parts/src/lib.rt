@@ -1,8 +1,8 @@
-//! The parts of a line's rows: what its names stand for, and what each of its terms adds.
+//! The parts of a line's rows: the meaning of its names, and the contribution of each of its terms.
 //!
-//! A name becomes a view or a metric, an attribute of a view becomes halves of those that are kept, and a
+//! A name becomes a view or a metric. An attribute of a view becomes halves of the four kept attributes. A
 //! constant is summed step by step, so that it follows the metrics. [`resolve`] looks up the names of some
-//! terms, each once and in the order of the text, and [`resolve_rank`] that of a priority.
+//! terms in the order of the text, and [`resolve_rank`] the name of a priority.
 //!
 //! ```
 //! // of the terms of `a.centerX - 2*gap`
@@ -10,15 +10,15 @@
 //! resolved.added    // half of 2*a.left + a.width: Addend::Attr; and -2 times gap: Addend::Multiple
 //! ```
 //!
-//! An [`Addend`] is what a term adds to a row; a [`Step`] has the row's scale after a term, and what the term
-//! adds to the constant. [`constant_after`] takes the steps at given metrics, unless a part of the constant
-//! would be past [`CONSTANT_LIMIT`].
+//! An [`Addend`] is a term's contribution to a row. A [`Step`] has the row's scale after a term, and the
+//! term's contribution to the constant. [`constant_after`] takes the steps at given metrics, unless a part of
+//! the constant would pass [`CONSTANT_LIMIT`].
 //!
 //! Invariant (`IsKept`): an attribute in an addend is halves, at most two of an edge and two of a size.
 //!
 //! In reading order: `stops` (why there are no rows), `limits`. Sums: `wide`, `wide::ratios`, `steps` (a
-//! constant, step by step). Names: `addends` (a term with no name left), `shares` (attributes of views, by
-//! halves), `resolved` with `resolved::lookups` (the names of a line).
+//! constant, step by step). Names: `addends` (a term without names of views), `shares` (attributes of views,
+//! by halves), `resolved` with `resolved::lookups` (the names of a line).
 #![tactic(auto)]
 
 mod addends;

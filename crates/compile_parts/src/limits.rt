@@ -1,7 +1,7 @@
 // The limits of lines, beside those of problems.
 ghost use Rattle.compile_parts.specs.Constants.{ConstantsAreAsSaid};
 
-/// How many addends a row may have, which are the terms of a line on both of its sides.
+/// The greatest number of a row's addends, which are the terms on both sides of a line.
 pub const ADDEND_LIMIT: usize = 64;
 
 /// Both parts of a row's constant are below this in size.

@@ -1,4 +1,5 @@
-// What the names of a line stand for. Each is looked up once, in the order of the text.
+// The meaning of the names of a line. They are looked up in the order of the text, each as often as it
+// occurs: a view's name in the tree, and a metric's name in the tree and then among the metrics.
 mod lookups;
 
 ghost use Rattle.std.specs.Prelude.{◌≡◌, ◌++◌, ◌∷◌, [], ◌||◌, ℕ, None, Some, All, IfOk, IfErr, OnOk};
@@ -26,8 +27,8 @@ use std::alloc::Global;
 use std::slice;
 use view_tree::{Tree, ViewId};
 
-// What a term stands for: what it adds, the view whose attribute it is, and whether a view stands for a
-// number.
+// The meaning of a term: its addend, the view whose attribute it is, and whether it names a view in place of
+// a number.
 #[derive(Clone, Copy)]
 struct Found<'a> {
     addend: Addend<'a>,
@@ -35,7 +36,7 @@ struct Found<'a> {
     is_view_number: bool,
 }
 
-// What a term stands for, or the name in it that must be a view's or a metric's, and isn't.
+// The meaning of a term, or the name in it that must be a view's or a metric's and isn't.
 fn look_up<'a>(tree: &Tree, metrics: &Metrics, term: &ExprTerm<'a>) -> Result<Found<'a>, &'a str>
     ensures known { OnOk result (unknown_in tree.now.views metrics.now (term_view term.now).of ≡ None) }
     ensures addend { IfOk result (λ f. addend_view f.addend
@@ -78,8 +79,8 @@ fn look_up<'a>(tree: &Tree, metrics: &Metrics, term: &ExprTerm<'a>) -> Result<Fo
     }
 }
 
-/// What the terms of a line stand for: what each adds, the views whose attributes they are, and whether a
-/// view stands for a number.
+/// The meaning of the terms of a line: the addend of each, the views whose attributes they are, and whether
+/// one names a view in place of a number.
 #[derive(Drop)]
 pub struct Resolved<'a> {
     pub added: Vec<Addend<'a>>,
@@ -100,7 +101,7 @@ fn nothing<'a>(alloc: Global, room: usize) -> Result<Resolved<'a>, OutOfMemory>
     })
 }
 
-// Adds what one more term stands for.
+// Adds the meaning of one more term.
 fn push<'a>(out: &mut Resolved<'a>, found: &Found<'a>) -> Result<(), OutOfMemory>
     ensures added { OnOk result (addends_view out.new.added.items
         ≡ addends_view out.old.added.items ++ addend_view found.now.addend ∷ []) }
@@ -119,7 +120,7 @@ fn push<'a>(out: &mut Resolved<'a>, found: &Found<'a>) -> Result<(), OutOfMemory
     Ok(())
 }
 
-/// What the terms stand for, unless a name in them is unknown.
+/// The meaning of the terms, unless a name in them is unknown.
 pub fn resolve<'a>(
     alloc: Global,
     tree: &Tree,
@@ -147,8 +148,7 @@ pub fn resolve<'a>(
     Ok(out)
 }
 
-/// The rank that a priority stands for, where it stands for one, or its name, if that is neither a view's nor
-/// a metric's.
+/// The rank of a priority, if it has one. The error is its name, if that is neither a view's nor a metric's.
 pub fn resolve_rank<'a>(
     tree: &Tree,
     metrics: &Metrics,

@@ -1,4 +1,4 @@
-// The attributes that terms have.
+// The attributes of views in terms.
 ghost use Rattle.std.specs.Prelude.{◌≡◌, ◌≢◌, ℕ, ◌<◌, ◌≤◌, pos, ◌*◌, ◌*ℤ◌, false, length};
 ghost use Rattle.problem_core.specs.Layout.{coefficient};
 ghost use Rattle.std.specs.Prelude.{slice_index_or, All, AllPairs, IsTrue, IfOk, IfSome, OnOk};
@@ -41,7 +41,7 @@ fn times(attr: u32, by: u8) -> Term
     }
 }
 
-/// An attribute, by the attributes that are kept: `scale` times the attribute is `edge` times an edge plus
+/// An attribute as a sum of the four kept ones: `scale` times the attribute is `edge` times an edge plus
 /// `size` times a size, with the least such scale. The edge and the size are the left and the width of the
 /// view, or its top and its height.
 #[derive(Clone, Copy)]
@@ -74,7 +74,7 @@ fn down(scale: u8, edge: u8, size: u8) -> AttrSum
     }
 }
 
-/// The attribute as a sum of those that are kept.
+/// The attribute as a sum of the four kept ones.
 pub fn attr_sum(word: AttrWord) -> AttrSum
     ensures sum { result ≡ meaning.attr_sum word }
     ensures kept { IsAttrSum result }
@@ -113,7 +113,6 @@ pub fn edge_and_size(is_across: bool, view: ViewId, edge: u8, size: u8) -> EdgeA
     }
 }
 
-// Twice an attribute of a view.
 fn twice(view: ViewId, word: AttrWord) -> EdgeAndSize
     requires { view.0 < ID_LIMIT }
     ensures form { form result ≡ meaning.doubled view.0 word }
@@ -124,7 +123,7 @@ fn twice(view: ViewId, word: AttrWord) -> EdgeAndSize
     edge_and_size(sum.is_across, view, by * sum.edge, by * sum.size)
 }
 
-/// The live view of this name, if there is one. The name is looked up in the tree.
+/// The live view of this name in the tree, if there is one.
 pub fn id_named(tree: &Tree, name: &str) -> Option<ViewId>
     ensures id { option_map (λ id. id.0) result
         ≡ option_map (λ v. v.id) (view_named tree.now.views name.now) }

@@ -19,7 +19,7 @@ use crate::wide::ratios::{Ratio, common, reduced, small_of};
 use frac_core::Frac;
 use name_tables::Metrics;
 
-/// What a term adds to the constant: nothing, a number, or a multiple of the metric whose name stands at a
+/// A term's contribution to the constant: nothing, a number, or a multiple of the metric whose name is at a
 /// place.
 #[derive(Clone, Copy)]
 pub enum Part {
@@ -28,14 +28,14 @@ pub enum Part {
     Multiple { by: Frac, place: u32 },
 }
 
-/// The scale of the row after a term, and what the term adds to the constant.
+/// The scale of the row after a term, and the term's contribution to the constant.
 #[derive(Clone, Copy)]
 pub struct Step {
     pub scale: u32,
     pub part: Part,
 }
 
-/// The name that stands at a place, which is empty past the end.
+/// The name at a place, which is empty past the end.
 pub fn name_at(names: &[String], place: u32) -> &str
     ensures { result.now ≡ slice_index_or (map string_bytes names.now) place [] }
 {
@@ -45,7 +45,7 @@ pub fn name_at(names: &[String], place: u32) -> &str
     }
 }
 
-// The value of the metric whose name stands at a place.
+// The value of the metric whose name is at a place.
 fn metric_value(metrics: &Metrics, names: &[String], place: u32) -> Option<Frac>
     ensures { result ≡ value_of metrics.now (slice_index_or (map string_bytes names.now) place []) }
 {
@@ -78,7 +78,7 @@ fn times(by: Frac, value: Frac) -> Ratio
     }
 }
 
-// What a part adds to the sum.
+// The contribution of a part to the sum.
 fn part_ratio(metrics: &Metrics, names: &[String], part: Part) -> Ratio
     ensures num { result.num ≡ (part_value metrics.now (part_view (map string_bytes names.now) part)).num }
     ensures den { result.den ≡ pos (part_value metrics.now
@@ -105,7 +105,7 @@ fn negative(scale: u32) -> i64
     -i64::from(scale)
 }
 
-// What a part with this value changes the constant by, at a scale.
+// The change of the constant by a part with this value, at a scale.
 fn change(scale: u32, value: Ratio) -> Ratio
     requires scale { scale ≤ COEFFICIENT_LIMIT }
     requires small { unsigned_abs value.num < 2 ^ 88 }
@@ -132,7 +132,7 @@ struct Progress {
     constant: Frac,
 }
 
-// The constant at the new scale with a value added to the sum, where it is small.
+// The constant at the new scale with a value added to the sum, if it is small.
 fn moved(before: Progress, scale: u32, value: Ratio) -> Option<Frac>
     requires before { (0 < before.scale) × (before.scale ≤ COEFFICIENT_LIMIT) }
     requires num_small { unsigned_abs before.constant.num < CONSTANT_LIMIT }

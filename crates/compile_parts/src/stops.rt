@@ -13,10 +13,10 @@ pub enum KindWord {
     /// A format leads to the parent of the window, which has none.
     #[error("the window has no parent")]
     Parent,
-    /// A view stands for a number.
+    /// A view's name is in place of a number.
     #[error("a view stands for a number")]
     Object,
-    /// A priority stands for no rank.
+    /// A priority has no rank.
     #[error("the priority stands for no rank")]
     Priority,
     /// A weight is 0, or past its limit.
@@ -31,7 +31,7 @@ pub enum KindWord {
     /// A further size of the same view has a priority.
     #[error("a further size of the view has a priority")]
     Sized,
-    /// A tree of views is of another shape.
+    /// A tree of views has another shape.
     #[error("the tree of views is of another shape")]
     Tree,
     /// A sweep goes backwards, or the window has no size.
@@ -56,7 +56,7 @@ pub enum CompileStop {
     /// A limit would be passed.
     #[error("a limit would be passed")]
     Limit(LimitWord),
-    /// Memory is wanting.
+    /// Memory has run out.
     #[error("memory is wanting")]
     OutOfMemory,
 }

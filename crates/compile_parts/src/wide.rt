@@ -1,4 +1,4 @@
-// Products and sums of 128 bits that cannot overflow where a row is made.
+// Products and sums of 128 bits that cannot overflow when a row is made.
 pub(crate) mod ratios;
 
 ghost use Rattle.std.specs.Prelude.{◌≡◌, ◌^◌, ◌<◌, ◌≤◌, ◌+◌, ◌*◌, ◌+ℤ◌, ◌*ℤ◌, unsigned_abs};

@@ -9,7 +9,7 @@ use Rattle.compile_parts.specs.Fractions.{IsConstant}
 use Rattle.compile_parts.specs.Meaning.{MetricList}
 use Rattle.compile_parts.specs.Steps.{AreSmallSteps, Step, last_scale, step_sum}
 
--- a row, whose scale is that after its last step
+-- a row, with the scale after its last step
 pub record RowForm : Type 0 where
   pub id : ℕ
   pub rank : ℕ
@@ -44,7 +44,7 @@ pub record IsRowNow (metrics : MetricList) (form : RowForm) (row : Row) : Type 0
   pub terms : row.terms ≡ form.terms
   pub constant : IsConstant (last_scale form.steps) (step_sum metrics form.steps) row.constant
 
--- no constant is past the limit, after whatever step
+-- no constant is past the limit, whatever the step
 abbrev pub AreSmallForms : MetricList → List RowForm → Type 0
 AreSmallForms metrics forms = All (λ f. AreSmallSteps metrics f.steps) forms
 

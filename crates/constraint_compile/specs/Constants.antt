@@ -1,4 +1,4 @@
--- What is meant where a line says nothing, written out.
+-- The usual values of what a line leaves out, written out.
 use Rattle.std.specs.Prelude.{◌≡◌}
 use Rattle.constraint_compile.specs.declared.suggestion.TheConstants.{USUAL_RANK}
 

@@ -1,4 +1,4 @@
--- What a compiled line is made of.
+-- The parts of a compiled line.
 use Rattle.std.specs.Prelude.{◌≡◌, ◌<◌, ◌≤◌, List, map, length, All, AllPairs}
 use Rattle.std.specs.String.{string_bytes}
 use Rattle.frac_core.specs.Fraction.{Fraction}
@@ -33,7 +33,7 @@ IsRowWith form constant row = (row.id ≡ form.id) × (row.rank ≡ form.rank) �
 abbrev pub compiled_line : List RowForm → List ViewId → compiled.CompiledLine
 compiled_line rows views = record { rows = map form_view rows; views = map (λ v. v.0) views }
 
--- what each row of a compiled line keeps, whatever its constant
+-- the invariant of each row of a compiled line, whatever its constant
 pub record IsForm (r : RowForm) : Type 0 where
   pub number : (0 < r.id) × (r.id < NUMBER_LIMIT)
   pub rank : r.rank ≤ REQUIRED
@@ -43,6 +43,6 @@ pub record IsForm (r : RowForm) : Type 0 where
   pub count : length r.terms.items ≤ TERM_LIMIT
   pub scales : AreScalesKept r.steps.items
 
--- the same of each of the rows
+-- each of the rows keeps it
 abbrev pub AreForms : List RowForm → Type 0
 AreForms rows = All IsForm rows

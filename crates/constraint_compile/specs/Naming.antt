@@ -15,7 +15,7 @@ is_multiple name Nothing = false
 is_multiple name (Number by) = false
 is_multiple name (Multiple by other) = bytes_eq name other
 
--- a term of the row is a multiple of the metric, also where such terms cancel
+-- a term of the row is a multiple of the metric, even if such terms cancel
 abbrev pub names_metric : List ℕ → RowForm → Bool
 names_metric name f = list_any (λ s. is_multiple name s.part) f.steps
 
@@ -29,7 +29,7 @@ pub record IsConstantOf (metrics : MetricList) (form : RowForm) (c : RowConstant
   pub constant : IsConstant (last_scale form.steps) (step_sum metrics form.steps) c.constant
   pub small : AreSmallSteps metrics form.steps
 
--- those of all these rows, in order
+-- the numbers and constants of all these rows, in order
 abbrev pub AreConstantsOf : MetricList → List RowForm → List RowConstant → Type 0
 AreConstantsOf metrics forms constants = AllZip (IsConstantOf metrics) forms constants
 

@@ -22,11 +22,11 @@ use Rattle.compile_parts.specs.declared.stops.KindWord.{KindWord}
 use Rattle.compile_parts.specs.declared.stops.KindWord.TheVariants as kind
 use Rattle.compile_parts.specs.declared.limits.TheConstants.{ADDEND_LIMIT}
 
--- each name of the line is a view's or a metric's where it must be
+-- each name of the line that must be a view's or a metric's is one
 abbrev pub AreKnown : List LiveView → MetricList → Linear → Type 0
 AreKnown views metrics l = first_unknown views metrics l ≡ None
 
--- the line's priority stands for a rank
+-- the line's priority has a rank
 abbrev pub HasRank : List LiveView → MetricList → Linear → Type 0
 HasRank views metrics l = (rank : ℕ) × IsRank views metrics l.priority rank
 
@@ -39,8 +39,8 @@ IsWrongUse views metrics l kind.Weight = (has_view_number views (terms_of l) ≡
     × HasRank views metrics l × (IsWeight l.weight → ⊥)
 IsWrongUse views metrics l _ = ⊥
 
--- it is the first wrong use of the line for all views and metrics by which a view does or doesn't stand for a
--- number, and the priority stands for this rank or for none
+-- it is the first wrong use of the line for all views and metrics with which a view is or isn't in place of a
+-- number, and the priority has this rank or none
 abbrev pub IsWrongNamed : Bool → Option ℕ → Linear → KindWord → Type 0
 IsWrongNamed has_number rank l word = (views : List LiveView) (metrics : MetricList)
     → has_number ≡ has_view_number views (terms_of l) → IfSome rank (IsRank views metrics l.priority)
@@ -57,7 +57,7 @@ pub record IsUsable (views : List LiveView) (metrics : MetricList) (l : Linear) 
 abbrev pub AreSmallSums : List LiveView → List Term → Type 0
 AreSmallSums views terms = (i : ℕ) → i < length terms → AreSmall (first_sum views terms (i + 1))
 
--- the steps are those of the terms: the scale after each, and what each adds to the constant
+-- the steps are the terms': the scale after each, and its contribution to the constant
 pub record AreSteps (views : List LiveView) (terms : List Term) (steps : List Step) : Type 0 where
   pub long : length steps ≡ length terms
   pub scales : (i : ℕ) (d : Step) → i < length terms
@@ -87,7 +87,7 @@ pub record IsWithinLimits (views : List LiveView) (metrics : MetricList) (terms 
   pub small : AreSmallSums views terms
   pub constants : AreSmallSteps metrics steps
 
--- a line within all limits, and what it is compiled to
+-- a line within all limits, and its compiled form
 pub record IsCompiled (views : List LiveView) (metrics : MetricList) (l : Linear) (number : ℕ)
     (c : CompiledLine) : Type 0 where
   pub usable : IsUsable views metrics l

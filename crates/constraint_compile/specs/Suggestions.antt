@@ -1,4 +1,4 @@
--- The row of a suggestion: that an attribute of a view has a value.
+-- The row of a suggestion that an attribute of a view has a value.
 use Rattle.std.specs.Prelude.{ℕ, ◌*◌, ◌<◌, ◌≤◌, ◌==◌, if◌then◌else◌, List, [], ◌∷◌, ◌++◌}
 use Rattle.std.specs.Prelude.{Option, Some, None, pos}
 use Rattle.problem_core.specs.declared.parts.Rel.TheVariants.{Eq}
@@ -32,7 +32,7 @@ some_term attr by = if by == 0 then [] else one_term attr by ∷ []
 abbrev pub terms_in : ℕ → AttrSum → List Term
 terms_in v s = some_term (edge_in s.is_across v) s.edge ++ some_term (size_in s.is_across v) s.size
 
--- so many times the attribute of the view v, by those that are kept
+-- so many times the attribute of the view v, by the four kept ones
 abbrev pub suggested_terms : ℕ → AttrWord → List Term
 suggested_terms v w = terms_in v (attr_sum w)
 
@@ -59,7 +59,7 @@ pub record IsSuggestion (s : Suggestion) : Type 0 where
   pub rank : s.rank ≤ REQUIRED
   pub view : s.view < ID_LIMIT
 
--- where none is written, the priority is this usual one
+-- the priority, or this usual one if none is written
 abbrev pub priority_or : ℕ → Option Meant → Option Meant
 priority_or usual None = Some (object.Number (pos (usual * UNIT)))
 priority_or usual (Some priority) = Some priority

@@ -1,4 +1,4 @@
-// What a line is compiled to: rows whose constants wait for the values of metrics.
+// Compiled lines: rows whose constants are computed when the metrics' values are known.
 ghost use Rattle.std.specs.Prelude.{◌≡◌, ◌++◌, map, nat_eq, IfOk};
 ghost use Rattle.std.specs.List.{list_any};
 ghost use Rattle.constraint_compile.specs.Inside.{form_view, compiled_line, AreForms};
@@ -23,7 +23,7 @@ pub struct RowForm {
 }
 
 /// The rows of a line, each with its constant as a sum of numbers and of multiples of metrics, and the views
-/// that the line's text names.
+/// in the line's text.
 #[derive(Drop)]
 pub struct Compiled {
     rows: Vec<RowForm>,
@@ -42,7 +42,7 @@ impl Model for Compiled {
 }
 
 impl Compiled {
-    /// The rows and the views with just these parts.
+    /// The rows and the views of just these parts.
     pub fn of(rows: Vec<RowForm>, views: Vec<ViewId>) -> Compiled
         requires { AreForms rows.items }
         ensures { result ≡ compiled_line rows.items views.items }
@@ -50,7 +50,7 @@ impl Compiled {
         Compiled { rows, views }
     }
 
-    /// The rows, whose constants the metrics give.
+    /// The rows without their constants.
     pub(crate) fn forms(&self) -> &[RowForm]
         ensures rows { map form_view result.now ≡ self.now.rows }
         ensures kept { AreForms result.now }
@@ -58,7 +58,7 @@ impl Compiled {
         &self.rows
     }
 
-    /// Whether the line's text names the view, also where the view has no part in a row.
+    /// Whether the line's text names the view, even if the view has no part in a row.
     pub fn names_view(&self, view: ViewId) -> bool
         ensures { result ≡ list_any (λ v. nat_eq v view.0) self.now.views }
     {

@@ -1,9 +1,9 @@
 //! From the reading of a line to its rows: names become views and metrics, views become attributes, and what
 //! was written becomes rows of whole coefficients.
 //!
-//! [`compile_line`] makes the row of a linear constraint, and [`Suggestion::row`] that of a suggestion;
-//! `format_compile` makes those of a visual format, each by [`row_of_addends`]. A [`Compiled`] line keeps its
-//! constants as sums of numbers and of multiples of metrics, so it follows the metrics without being read
+//! [`compile_line`] makes the row of a linear constraint, and [`Suggestion::row`] the row of a suggestion.
+//! `format_compile` makes the rows of a visual format, each by [`row_of_addends`]. A [`Compiled`] line keeps
+//! its constants as sums of numbers and of multiples of metrics, so it follows the metrics without being read
 //! again.
 //!
 //! ```
@@ -13,20 +13,20 @@
 //! compiled.constants_naming(alloc, &later, "gap")? // where gap is 10: row 7 has the constant 20
 //! ```
 //!
-//! A line that can't be compiled says the first cause, in an order that the contracts fix (`CompileStop`):
-//! an unknown name, then a wrong use, then a limit that would be passed.
+//! If a line can't be compiled, the error is the first cause, in an order that the contracts fix
+//! (`CompileStop`): an unknown name, then a wrong use, then a limit that would be passed.
 //!
-//! Invariant (`AreForms`): but for its constant, which the metrics decide, each row of a compiled line keeps
-//! what a row of `problem_core` has to.
+//! Invariant (`AreForms`): except for its constant, which the metrics decide, each row of a compiled line
+//! keeps the invariant of a row of `problem_core`.
 //!
-//! A row is a constraint in linear programming's words; its rank is the priority of a goal, and its scale
+//! In linear programming's words, a row is a constraint, its rank is the priority of a goal, and its scale is
 //! the factor that makes the coefficients whole.
 //!
-//! What the names of a line stand for, and what its terms add, stands in `compile_parts`. In reading order:
+//! `compile_parts` has the meaning of a line's names and the contributions of its terms. In reading order:
 //! `compiled` (a line's rows and views). `line`, with `line::signs` (all terms on one side), `line::sums`,
 //! `line::scales`, `line::nonzero` and `line::row_terms` (the coefficients), `line::parts` and `line::rows`
-//! (the row). Afterwards: `rows` (the constants at given metrics), `naming` (those that name a metric),
-//! `suggestion`.
+//! (the row). Afterwards: `rows` (the constants at given metrics), `naming` (the constants that name a
+//! metric), `suggestion`.
 #![tactic(auto)]
 
 mod compiled;

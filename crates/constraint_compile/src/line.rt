@@ -34,14 +34,14 @@ use script_text::{Direction, ExprTerm, Linear};
 use std::alloc::Global;
 use view_tree::{Tree, ViewId};
 
-// What the names of a line stand for.
+// The meaning of the names of a line.
 #[derive(Drop)]
 struct Names<'a> {
     terms: Resolved<'a>,
     rank: Option<u16>,
 }
 
-// What the names stand for, each of which must be that of a view or a metric.
+// The meaning of the names, each of which must be a view's or a metric's.
 fn names_of<'a>(
     alloc: Global,
     tree: &Tree,
@@ -80,7 +80,7 @@ struct Strength {
     weight: u16,
 }
 
-// The weight, where it is one.
+// The weight, if it is one.
 fn weight_of(weight: u64) -> Option<u16>
     ensures some { IfSome result (λ w. (w ≡ weight) × IsWeight weight) }
     ensures none { IfNone result (IsWeight weight → ⊥) }
@@ -175,15 +175,14 @@ fn compile_turned(
 ///
 /// Every term of the left side is added and every term of the right side subtracted. `Unknown` with the first
 /// name of the line that must be a view's or a metric's and isn't. Otherwise `Kind` with the first wrong use:
-/// `Object` where a view stands for a number, `Priority` where the priority is no whole number from 1 to
-/// [`REQUIRED`](problem_core::REQUIRED), `Weight` where the weight is outside 1 to [`WEIGHT_LIMIT`].
-/// Otherwise `Limit` with the first limit that is passed: `Rows` where the number isn't below
-/// [`NUMBER_LIMIT`], `Terms` at more than [`ADDEND_LIMIT`] terms, `Attributes` at more than
-/// [`TERM_LIMIT`](problem_core::TERM_LIMIT) attributes with coefficients that aren't 0, `Coefficient` where
-/// after some term the scale or a coefficient is past [`COEFFICIENT_LIMIT`](problem_core::COEFFICIENT_LIMIT)
-/// in size, `Constant` where after some term a part of the constant isn't below
-/// [`CONSTANT_LIMIT`](compile_parts::CONSTANT_LIMIT) in size.
-// It has six parameters: views and metrics change apart, and the direction is that of the scene.
+/// `Object` if a view is in place of a number, `Priority` if the priority is no whole number from 1 to
+/// [`REQUIRED`](problem_core::REQUIRED), `Weight` if the weight is outside 1 to [`WEIGHT_LIMIT`]. Otherwise
+/// `Limit` with the first limit that is passed: `Rows` if the number isn't below [`NUMBER_LIMIT`], `Terms` at
+/// more than [`ADDEND_LIMIT`] terms, `Attributes` at more than [`TERM_LIMIT`](problem_core::TERM_LIMIT)
+/// attributes with coefficients that aren't 0, `Coefficient` if after some term the scale or a coefficient is
+/// past [`COEFFICIENT_LIMIT`](problem_core::COEFFICIENT_LIMIT) in size, `Constant` if after some term a part
+/// of the constant isn't below [`CONSTANT_LIMIT`](compile_parts::CONSTANT_LIMIT) in size.
+// It has six parameters: views and metrics change apart, and the direction is the scene's.
 pub fn compile_line(
     alloc: Global,
     tree: &Tree,

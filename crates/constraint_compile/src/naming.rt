@@ -94,8 +94,8 @@ fn constants_naming(
 
 impl Compiled {
     /// The rows whose constants name the metric, each with its constant for these metrics, unless such a
-    /// constant is past the limit. No other row is looked at: its constant is the same whatever the metric's
-    /// value.
+    /// constant is past the limit. No other row is looked at, because the metric's value doesn't change its
+    /// constant.
     pub fn constants_naming(
         &self,
         alloc: Global,

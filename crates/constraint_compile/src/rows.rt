@@ -103,8 +103,8 @@ fn rows_of(
 }
 
 impl Compiled {
-    /// The rows with their constants for these metrics, unless a constant is past the limit. A metric that
-    /// isn't there counts as 0.
+    /// The rows with their constants for these metrics, unless a constant is past the limit. An unknown
+    /// metric counts as 0.
     pub fn rows_now(
         &self,
         alloc: Global,

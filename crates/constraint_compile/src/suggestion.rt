@@ -1,4 +1,4 @@
-// The row of a suggestion: that an attribute of a view has a value.
+// The row of a suggestion that an attribute of a view has a value.
 ghost use Rattle.std.specs.Prelude.{◌≡◌, ◌<◌, ◌≤◌, ◌*ℤ◌, pos, ◌∷◌, [], length, None, All, AllPairs};
 ghost use Rattle.std.specs.Prelude.{IfOk, IfErr, OnOk, IfSome, IfNone, OnSome};
 ghost use Rattle.frac_core.specs.Fraction.{IsFitting};
@@ -18,8 +18,8 @@ use span_text::{Object, UNIT};
 use std::alloc::Global;
 use view_tree::ViewId;
 
-/// That an attribute of a view has a value: the number and the rank of the row, the view's number, the
-/// attribute as it is written, the direction in which that is meant, and the row's constant.
+/// A suggestion that an attribute of a view has a value: the number and the rank of the row, the view's
+/// number, the attribute as it is written, the direction in which it is meant, and the row's constant.
 #[derive(Clone, Copy)]
 pub struct Suggestion {
     pub row: u32,
@@ -30,7 +30,7 @@ pub struct Suggestion {
     pub constant: Frac,
 }
 
-/// The rank of a suggestion whose priority isn't written.
+/// The rank of a suggestion without a priority.
 pub const USUAL_RANK: u16 = 750;
 
 // The number that makes the attribute's halves whole.
@@ -50,8 +50,7 @@ fn scaled(word: AttrWord, num: i64) -> i128
     i128::from(scale_of(word)) * i128::from(num)
 }
 
-/// The constant of the row of a suggestion of this value, where both of its parts are below the limit in
-/// size.
+/// The constant of the row of a suggestion of this value, if both of its parts are below the limit in size.
 pub fn suggested_constant(word: AttrWord, value: Frac) -> Option<Frac>
     ensures constant { IfSome result (IsConstant (scale_of word) (negated value)) }
     ensures small { OnSome result (IsSmallConstant (scale_of word) (negated value)) }
@@ -62,7 +61,7 @@ pub fn suggested_constant(word: AttrWord, value: Frac) -> Option<Frac>
     small_of(Ratio { num, den })
 }
 
-/// The priority, which is this usual one where none is written.
+/// The priority, or this usual one if none is written.
 pub fn priority_or(priority: Option<Object<'_>>, usual: u16) -> Option<Object<'_>>
     ensures { object_view result ≡ priority_or usual (object_view priority.entry) }
 {
@@ -97,7 +96,7 @@ impl Suggestion {
         )
     }
 
-    // The row of this sum in the attributes of its view.
+    // The row of this sum, in the attributes of its view.
     fn in_terms(&self, alloc: Global, sum: AttrSum) -> Result<Row, OutOfMemory>
         requires kept { IsSuggestion self.now }
         requires sum { IsAttrSum sum }

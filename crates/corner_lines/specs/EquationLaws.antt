@@ -44,23 +44,23 @@ SumIsReducible = (p : Problem) (at : List Mark) (quantity : (ℕ → ℤ) → �
 abbrev pub LowestTermsAreOne : Type 0
 LowestTermsAreOne = (p : Problem) → AreOnlyTerms p
 
--- where the lowest terms of a line's sum, or its value, do not fit, its quantity has no writing that fits
+-- if the lowest terms of a line's sum, or its value, do not fit, its quantity has no writing that fits
 abbrev pub UnfitFromLine : Type 0
 UnfitFromLine = (p : Problem) (at : List Mark) (quantity : (ℕ → ℤ) → ℤ) → IsWhole p → IsCorner p at
     → HasRays p at → IsToldUnfit p at quantity
 
--- the same of an inside mark, by the sum of its line's deviation
+-- the same for an inside mark, by the sum of its line's deviation
 abbrev pub MarkUnfitFromLine : Type 0
 MarkUnfitFromLine = (p : Problem) (at : List Mark) (name : RowName) (side : Side) → IsWhole p
     → IsCorner p at → HasRays p at → IsIn (place_of name side) at → IsMarkToldUnfit p at name side
 
--- where a deviation has no writing that fits, its line's inside mark has none
+-- if a deviation has no writing that fits, its line's inside mark has none
 abbrev pub MarkUnfitFromDeviation : Type 0
 MarkUnfitFromDeviation = (p : Problem) (at : List Mark) (name : RowName) (side : Side) → IsWhole p
     → IsCorner p at → IsIn (place_of name side) at → HasNoWriting p at (deviation name)
     → HasNoWriting p at (λ x. x (place_of name side))
 
--- the leaving line's equation gives that of the entering line at the next corner, in lowest terms
+-- the leaving line's equation gives the entering line's equation at the next corner, in lowest terms
 abbrev pub PivotIsResolved : Type 0
 PivotIsResolved = (p : Problem) (at : List Mark) (s : Swap) → IsWhole p → IsCorner p at
     → IsMarkAt p (place s.enter) → IsIn (place s.leave) at → IsResolved p at s
@@ -70,11 +70,11 @@ abbrev pub EquationIsCarried : Type 0
 EquationIsCarried = (p : Problem) (at : List Mark) (s : Swap) (quantity : (ℕ → ℤ) → ℤ) → IsWhole p
     → IsMarkAt p (place s.enter) → IsIn (place s.leave) at → IsCarried p at s quantity
 
--- an equation in which the entering line doesn't stand holds at the next corner
+-- an equation without a number for the entering line holds at the next corner
 abbrev pub EquationStays : Type 0
 EquationStays = (p : Problem) (at : List Mark) (s : Swap) → StaysWithout p at s
 
--- where the two marks of a line are exchanged, all equations stay
+-- if the two marks of a line are exchanged, all equations stay
 abbrev pub TurnKeepsEquations : Type 0
 TurnKeepsEquations = (p : Problem) (at : List Mark) (s : Swap) → IsCorner p at → IsIn (place s.leave) at
     → s.enter.row ≡ s.leave.row → AllStay p at s
@@ -85,24 +85,24 @@ TurnIsExchange = (p : Problem) (at : List Mark) (s : Swap) → IsWhole p → IsC
     → IsIn (place s.leave) at → s.enter.row ≡ s.leave.row → s.enter.side ≡ other_side s.leave.side
     → IsExchange p at s
 
--- a mark of a line that stands in an inside line's equation can be exchanged for that line's mark
+-- if a line has a number in an inside line's equation, its marks can be exchanged for that line's inside mark
 abbrev pub LineIsExchange : Type 0
 LineIsExchange = (p : Problem) (at : List Mark) (s : Swap) (own : ℕ) (by : RowName → ℤ) (num : ℤ) (den : ℕ)
     → IsWhole p → IsCorner p at → HasRays p at → IsMarkAt p (place s.enter) → IsIn (place s.leave) at
     → IsLineEquation p at (deviation s.leave.row) own by num den → by s.enter.row ≢ pos 0 → IsExchange p at s
 
--- which columns move where a mark grows
+-- which columns move when a mark grows
 abbrev pub LineMoves : Type 0
 LineMoves = (p : Problem) (at : List Mark) (name : RowName) (side : Side) (c : ℕ) → IsWhole p
     → IsCorner p at → IsMarkAt p (place_of name side) → MovesByLine p at name side c
 
--- which inside marks move where a mark grows
+-- which inside marks move when a mark grows
 abbrev pub MarkMoves : Type 0
 MarkMoves = (p : Problem) (at : List Mark) (name inside : RowName) (side to : Side) → IsWhole p
     → IsCorner p at → IsMarkAt p (place_of name side) → IsIn (place_of inside to) at
     → MarkMovesByLine p at name side inside to
 
--- where its value doesn't fit, a line's sum doesn't
+-- if its value doesn't fit, a line's sum doesn't
 abbrev pub UnfitFromValue : Type 0
 UnfitFromValue = (p : Problem) (own : ℕ) (by : RowName → ℤ) (num : ℤ) (den : ℕ) → IsUnfitValue num den
     → IsUnfitLine p own by num den

@@ -24,7 +24,7 @@ use Rattle.corner_lines.specs.Levels.StayLevels.{turned}
 
 -- ---- the rows of all levels
 
--- each level's unit, and its row: the level's own number, and those of the outside lines
+-- each level's unit, and its row: the level's own number, and the numbers of the outside lines
 pub record Rows : Type 0 where
   pub unit : ℕ → ℕ
   pub own : ℕ → ℕ
@@ -40,7 +40,7 @@ abbrev pub costs_of : Rows → Side → Line → ℕ → ℤ
 costs_of rows side l level =
     reduced_number side level (rows.unit level) (rows.own level) (rows.number level l.name) l
 
--- where the line is not of the level its mark's reduced cost is its number there, with the other sign of an
+-- if the line is not of the level, its mark's reduced cost is its number there, with the other sign for an
 -- under mark
 abbrev pub ReducedElsewhere : Type 0
 ReducedElsewhere = (side : Side) (level unit own : ℕ) (y : ℤ) (l : Line) → l.level ≢ level
@@ -71,21 +71,21 @@ NegativeFrontIsNegative = (p : Problem) (at : List Mark) (rows : Rows) (mark : M
     → IsOutsideLine at mark.row → IsFrontIn p rows mark level front → front <ℤ pos 0
     → HasNegativeColumn p at mark
 
--- the column of one with a front above 0 is not negative, whatever multipliers the corner's are
+-- a column with a front above 0 is not negative, whatever the corner's multipliers are
 abbrev pub PositiveFrontIsNot : Type 0
 PositiveFrontIsNot = (p : Problem) (at : List Mark) (rows : Rows) (mark : Mark) (level : ℕ) (front : ℤ)
     (m : Multipliers) → IsWhole p → HasRays p at → AreLevelRows p at rows → IsOutsideLine at mark.row
     → IsFrontIn p rows mark level front → pos 0 <ℤ front → AreMultipliersAt p at m
     → All (λ l. l.name ≡ mark.row → IsLexNonnegative (column m mark.side l)) (lines p)
 
--- nor is that of one without a front
+-- a column without a front isn't negative either
 abbrev pub NoFrontIsNot : Type 0
 NoFrontIsNot = (p : Problem) (at : List Mark) (rows : Rows) (mark : Mark) (m : Multipliers)
     → IsWhole p → HasRays p at → AreLevelRows p at rows → IsOutsideLine at mark.row → HasNoFrontIn p rows mark
     → AreMultipliersAt p at m
     → All (λ l. l.name ≡ mark.row → IsLexNonnegative (column m mark.side l)) (lines p)
 
--- where no outside mark has a front below 0, no column is negative
+-- if no outside mark has a front below 0, no column is negative
 abbrev pub NoNegativeFronts : Type 0
 NoNegativeFronts = (p : Problem) (at : List Mark) (rows : Rows) → IsProblem p → AreLevelRows p at rows
     → ((side : Side) → All (λ l. IsOutsideLine at l.name → (level : ℕ) (front : ℤ)
@@ -102,8 +102,7 @@ pub record AreAlike (a b : ℤ) : Type 0 where
   pub right_positive : 0 < right
   pub same : pos left *ℤ b ≡ pos right *ℤ a
 
--- costs that are not negative, strongest level first, stay so where each becomes a positive multiple
--- of itself
+-- costs that are not negative, strongest level first, stay so if each becomes a positive multiple of itself
 abbrev pub AlikeCostsKeepSign : Type 0
 AlikeCostsKeepSign = (costs next : ℕ → ℤ) → ((level : ℕ) → AreAlike (costs level) (next level))
     → IsLexNonnegative costs → IsLexNonnegative next
@@ -114,7 +113,7 @@ AlikeFrontsAreFronts = (costs next : ℕ → ℤ) (level : ℕ) (front : ℤ)
     → ((level : ℕ) → AreAlike (costs level) (next level)) → IsFront costs level front
     → IsFront next level (next level) × AreAlike front (next level)
 
--- after an exchange, those of lines that are not in the pivot
+-- after an exchange, the costs of lines that are not in the pivot
 abbrev pub ExchangedCostsAreAlike : Type 0
 ExchangedCostsAreAlike = (p : Problem) (at : List Mark) (s : Swap) (level unit own size low : ℕ)
     (number pivot next : RowName → ℤ) (n : ℤ) → IsLevelExchange p at s level unit own number size pivot
@@ -126,7 +125,7 @@ ExchangedCostsAreAlike = (p : Problem) (at : List Mark) (s : Swap) (level unit o
     (reduced_number side level unit low (next l.name) l))
     (lines p)
 
--- after a join, those of lines that are not in the joining line's equation
+-- after a join, the costs of lines that are not in the joining line's equation
 abbrev pub JoinedCostsAreAlike : Type 0
 JoinedCostsAreAlike = (p q : Problem) (at : List Mark) (level unit own size low : ℕ)
     (number line next : RowName → ℤ) (name : RowName) (inside : Side) (n : ℤ) → IsSound q → HasRays q at
@@ -137,7 +136,7 @@ JoinedCostsAreAlike = (p q : Problem) (at : List Mark) (level unit own size low 
     (reduced_number side level unit low (next l.name) l))
     (lines q)
 
--- where a level's unit grows
+-- after a level's unit has grown
 abbrev pub GrownCostsAreAlike : Type 0
 GrownCostsAreAlike = (p : Problem) (level unit own factor divisor : ℕ) (y : ℤ) → IsProblem p
     → IsLevelUnit p level unit → 0 < factor → 0 < own → IsGcd factor own divisor
@@ -159,7 +158,7 @@ constantless l = record {
   form = l.form;
 }
 
--- where constants alone have changed, units and rows of levels are as before
+-- if only constants have changed, units and rows of levels are as before
 abbrev pub MovedLevelsStay : Type 0
 MovedLevelsStay = (p q : Problem) (at : List Mark) (level unit own : ℕ) (number : RowName → ℤ)
     → map constantless (lines p) ≡ map constantless (lines q) → IsLevelUnit p level unit
@@ -170,7 +169,7 @@ MovedLevelsStay = (p q : Problem) (at : List Mark) (level unit own : ℕ) (numbe
 abbrev pub with_stay : Problem → Stay → Problem
 with_stay p s = record { rows = p.rows; stays = p.stays ++ (s ∷ []) }
 
--- the level that the stay has
+-- the level of that stay
 abbrev pub next_level : Problem → ℕ
 next_level p = FIRST_STAY_LEVEL + length p.stays
 

@@ -1,4 +1,4 @@
--- The laws of a row that joins.
+-- The laws of a row or an attribute that joins.
 use Rattle.std.specs.Prelude.{◌≡◌, ◌<◌, [], ℕ, List}
 use Rattle.frac_core.specs.Fraction.{Fraction}
 use Rattle.problem_core.specs.Layout.{HasStay, Problem, Row}
@@ -26,7 +26,7 @@ abbrev pub JoinedHasRays : Type 0
 JoinedHasRays = (p : Problem) (at : List Mark) (r : Row) → IsWhole (with_row r p) → HasRays p at
     → HasRays (with_row r p) (over_joined r at)
 
--- all equations hold there in which the row doesn't stand
+-- all equations without a number for the row hold there
 abbrev pub EquationsHoldWithRow : Type 0
 EquationsHoldWithRow = (p : Problem) (at : List Mark) (r : Row) → IsWhole (with_row r p) → HoldWithRow p at r
 
@@ -43,11 +43,11 @@ abbrev pub TermsGiveDeviation : Type 0
 TermsGiveDeviation = (p : Problem) (at : List Mark) (r : Row) → IsWhole (with_row r p)
     → GivesDeviation (with_row r p) at r
 
--- a sum of the first terms that has no writing that fits is what a stop names
+-- if a sum of the first terms has no writing that fits, it may be the quantity that a stop names
 abbrev pub TermsAreUnfit : Type 0
 TermsAreUnfit = (p : Problem) (at : List Mark) (r : Row) → IsWhole (with_row r p) → AreToldUnfit p at r
 
--- so is the whole sum less the constant, where the over mark has none
+-- if the over mark has no writing that fits, so may the whole sum less the constant
 abbrev pub LastTermsAreUnfit : Type 0
 LastTermsAreUnfit = (p : Problem) (at : List Mark) (r : Row) → IsWhole (with_row r p) → IsLastToldUnfit p at r
 
@@ -67,12 +67,12 @@ abbrev pub JoinedUnderHasRays : Type 0
 JoinedUnderHasRays = (p : Problem) (at : List Mark) (r : Row) → IsWhole (with_row r p) → IsCorner p at
     → HasRays p at → HasRays (with_row r p) (under_joined r at)
 
--- all equations are as where the row is over
+-- all equations are the same whether the row is over or under
 abbrev pub JoinedUnderKeepsEquations : Type 0
 JoinedUnderKeepsEquations = (p : Problem) (at : List Mark) (r : Row) → IsWhole (with_row r p)
     → IsCorner p at → HoldUnder p at r
 
--- a corner is one of the problem with a new attribute, whose stay is outside
+-- a corner is a corner of the problem with a new attribute, whose stay is outside
 abbrev pub AttrJoinsCorner : Type 0
 AttrJoinsCorner = (p : Problem) (at : List Mark) (attr : ℕ) (target : Fraction) → IsWhole p → IsNumber attr
     → (HasStay p.stays attr → ⊥) → 0 < target.den → IsCorner p at → IsCorner (with_attr attr target p) at
@@ -82,18 +82,18 @@ abbrev pub AttrJoinsRays : Type 0
 AttrJoinsRays = (p : Problem) (at : List Mark) (attr : ℕ) (target : Fraction) → IsWhole p → IsNumber attr
     → (HasStay p.stays attr → ⊥) → 0 < target.den → HasRays p at → HasRays (with_attr attr target p) at
 
--- all equations hold there in which the new stay doesn't stand
+-- all equations without a number for the new stay hold there
 abbrev pub EquationsHoldWithAttr : Type 0
 EquationsHoldWithAttr = (p : Problem) (at : List Mark) (attr : ℕ) (target : Fraction)
     → HoldWithAttr p at attr target
 
--- the new attribute is its stay's target and deviation
+-- the new attribute is its stay's target plus its stay's deviation
 abbrev pub AttrIsOwnDeviation : Type 0
 AttrIsOwnDeviation = (p : Problem) (at : List Mark) (attr : ℕ) (target : Fraction) → IsWhole p
     → IsNumber attr → (HasStay p.stays attr → ⊥) → 0 < target.den → IsCorner p at
     → IsOwnDeviation p at attr target
 
--- where the stays move to the values at a corner, it stays one
+-- if the stays move to the values at a corner, it stays a corner
 abbrev pub StoodIsCorner : Type 0
 StoodIsCorner = (p : Problem) (at : List Mark) (stays : List Stay) → IsWhole p → IsCorner p at
     → HaveStood p at stays → IsCorner (with_stays stays p) at
@@ -108,12 +108,12 @@ abbrev pub StoodKeepsAttrs : Type 0
 StoodKeepsAttrs = (p : Problem) (at : List Mark) (stays : List Stay) (attr : ℕ) → IsWhole p → IsCorner p at
     → HaveStood p at stays → StaysAsWritten p at stays (λ x. x (attr_column attr))
 
--- so do those of rows' deviations
+-- the equations of rows' deviations stay as they are
 abbrev pub StoodKeepsRows : Type 0
 StoodKeepsRows = (p : Problem) (at : List Mark) (stays : List Stay) (id : ℕ) → IsWhole p → IsCorner p at
     → HaveStood p at stays → StaysAsWritten p at stays (deviation (Held id))
 
--- those of the stays' deviations keep their numbers, and their values come to 0
+-- the equations of the stays' deviations keep their numbers, and their values become 0
 abbrev pub StoodClearsStays : Type 0
 StoodClearsStays = (p : Problem) (at : List Mark) (stays : List Stay) (attr : ℕ) → IsWhole p → IsCorner p at
     → HaveStood p at stays → HasStay p.stays attr → ComesToZero p at stays attr
@@ -122,7 +122,7 @@ StoodClearsStays = (p : Problem) (at : List Mark) (stays : List Stay) (attr : �
 abbrev pub PathBeginsWithNone : Type 0
 PathBeginsWithNone = (p : Problem) (at : List Mark) → IsCorner p at → BeginsWith p at [] [] at
 
--- where rows have joined one by one, each with its mark that is not negative, a path begins
+-- after rows have joined one by one, each with its mark that is not negative, a path begins
 abbrev pub PathBeginsWithMore : Type 0
 PathBeginsWithMore = (p : Problem) (kept at : List Mark) (joined : List Row) (r : Row)
     → IsWhole (with_row r p) → IsCorner p at → BeginsWith p kept joined [] at

@@ -22,25 +22,25 @@ with_row r p = with_rows (r ∷ []) p
 abbrev pub over_joined : Row → List Mark → List Mark
 over_joined r at = at ++ (over_mark r.id ∷ [])
 
--- with its under mark, where its value over is below 0
+-- the marks with the row's under mark, for a row whose value over would be below 0
 abbrev pub under_joined : Row → List Mark → List Mark
 under_joined r at = at ++ (under_mark r.id ∷ [])
 
 -- ---- equations
 
--- what was written without the row is so with it
+-- the equations without the row hold with it
 abbrev pub HoldWithRow : Problem → List Mark → Row → Type 0
 HoldWithRow p at r = (quantity : (ℕ → ℤ) → ℤ) (own : ℕ) (by : RowName → ℤ) (num : ℤ) (den : ℕ)
     → IsLineEquation p at quantity own by num den → by (Held r.id) ≡ pos 0
     → IsLineEquation (with_row r p) (over_joined r at) quantity own by num den
 
--- what is written where the row is over is so where it is under
+-- the equations with the row over hold with it under
 abbrev pub HoldUnder : Problem → List Mark → Row → Type 0
 HoldUnder p at r = (quantity : (ℕ → ℤ) → ℤ) (own : ℕ) (by : RowName → ℤ) (num : ℤ) (den : ℕ)
     → IsLineEquation (with_row r p) (over_joined r at) quantity own by num den
     → IsLineEquation (with_row r p) (under_joined r at) quantity own by num den
 
--- the numbers of a sum: the second's are taken `times` over
+-- the sum of two lists of numbers, the second taken `times` over
 abbrev pub AreAdded : List Line → ℕ → (RowName → ℤ) → ℤ → ℕ → (RowName → ℤ) → (RowName → ℤ) → Type 0
 AreAdded ls own by times own2 by2 result =
     All (λ l. result l.name ≡ pos own2 *ℤ by l.name +ℤ (pos own *ℤ times) *ℤ by2 l.name) ls
@@ -50,7 +50,7 @@ abbrev pub HasNoTerms : Problem → List Mark → Row → Type 0
 HasNoTerms p at r = (by : RowName → ℤ) → All (λ l. by l.name ≡ pos 0) (lines p)
     → IsLineEquation p at (first_terms r 0) 1 by (pos 0) 1
 
--- with the sum of the first i terms and the next one's attribute, the sum of one term more
+-- the sum of one more term, from the sum of the first i terms and the equation of the next one's attribute
 abbrev pub GoesOn : Problem → List Mark → Row → Type 0
 GoesOn p at r = (i : ℕ) (none : Term) (own : ℕ) (by : RowName → ℤ) (value : Fraction)
     (own2 : ℕ) (by2 : RowName → ℤ) (value2 : Fraction) (result : RowName → ℤ) (num : ℤ) (den : ℕ)
@@ -69,21 +69,21 @@ GivesDeviation p at r = (own : ℕ) (by : RowName → ℤ) (value : Fraction) (n
     (sum_num value (negsuc 0) (pos 1) r.constant) (sum_den value (pos 1) r.constant)
     → IsLineSum p at (deviation (Held r.id)) own by num den
 
--- ---- where a path begins
+-- ---- the beginning of a path
 
--- the row's mark that is not negative, where its value has this numerator
+-- the row's mark that is not negative, if its value has this numerator
 abbrev pub IsJoinedBy : Row → Mark → ℤ → Type 0
 IsJoinedBy r m num = ((m ≡ over_mark r.id) × (pos 0 ≤ℤ num)) ⊎ ((m ≡ under_mark r.id) × (pos 0 <ℤ num))
 
--- rows have joined one by one; another one joins with its mark that is not negative
+-- rows have joined one by one; one more joins with its mark that is not negative
 abbrev pub BeginsWithMore : Problem → List Mark → List Mark → List Row → Row → Type 0
 BeginsWithMore p kept at joined r = (m : Mark) (num : ℤ) (den : ℕ)
     → HasValue (with_row r p) (at ++ (m ∷ [])) (λ x. x (place m)) num den → 0 < den → IsJoinedBy r m num
     → BeginsWith (with_row r p) kept (joined ++ (r ∷ [])) [] (at ++ (m ∷ []))
 
--- ---- what does not fit
+-- ---- quantities that do not fit
 
--- the sum of the first j terms has no writing that fits: this is what a stop names
+-- if the sum of the first j terms has no writing that fits, it may be the quantity that a stop names
 abbrev pub AreToldUnfit : Problem → List Mark → Row → Type 0
 AreToldUnfit p at r = (j : ℕ) → 1 ≤ j → j ≤ length r.terms + 1
     → HasNoWriting (with_row r p) (over_joined r at) (first_terms r j)
@@ -104,13 +104,13 @@ new_stay attr target = record { attr = attr; target = target }
 abbrev pub with_attr : ℕ → Fraction → Problem → Problem
 with_attr attr target p = record { rows = p.rows; stays = p.stays ++ (new_stay attr target ∷ []) }
 
--- what was written without the attribute is so with it
+-- the equations without the attribute hold with it
 abbrev pub HoldWithAttr : Problem → List Mark → ℕ → Fraction → Type 0
 HoldWithAttr p at attr target = (quantity : (ℕ → ℤ) → ℤ) (own : ℕ) (by : RowName → ℤ) (num : ℤ) (den : ℕ)
     → IsLineEquation p at quantity own by num den → by (StayOf attr) ≡ pos 0
     → IsLineEquation (with_attr attr target p) at quantity own by num den
 
--- the attribute is its stay's target and deviation
+-- the attribute is its stay's target plus its stay's deviation
 abbrev pub IsOwnDeviation : Problem → List Mark → ℕ → Fraction → Type 0
 IsOwnDeviation p at attr target = (by : RowName → ℤ) → by (StayOf attr) ≡ pos 1
     → All (λ l. by l.name ≡ pos 0) (lines p)

@@ -1,4 +1,4 @@
--- Levels at a corner: their rows, what they cost, and when it fits.
+-- Levels at a corner: their rows, their costs, and when they fit.
 pub mod LevelRows
 pub mod LevelJoins
 pub mod LevelCosts

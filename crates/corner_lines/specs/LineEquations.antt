@@ -1,4 +1,4 @@
--- What is written at a corner, by lines: both marks of a line have opposite numbers, so a line has one.
+-- The equations of lines at a corner. Both marks of a line have opposite numbers, so a line has one number.
 use Rattle.std.specs.Prelude.{◌≡◌, ◌≢◌, ℕ, ◌<◌, ◌*◌, List, [], ◌∷◌, ℤ, pos, negsuc, ◌-ℤ◌, ◌*ℤ◌, neg_ℤ}
 use Rattle.std.specs.Prelude.{unsigned_abs, All}
 use Rattle.std.specs.Int.{◌∣◌}
@@ -21,7 +21,7 @@ pub record IsOutsideLine (at : List Mark) (name : RowName) : Type 0 where
   pub under : IsIn (place_of name Under) at → ⊥
   pub over : IsIn (place_of name Over) at → ⊥
 
--- in each solution `own` times the quantity is `own` times `num / den` and the sum of the outside lines'
+-- in each solution `own` times the quantity is `own` times `num / den` plus the sum of the outside lines'
 -- deviations, each times its number; `own` and the numbers have no common factor
 pub record IsLineEquation (p : Problem) (at : List Mark) (quantity : (ℕ → ℤ) → ℤ) (own : ℕ) (by : RowName → ℤ)
     (num : ℤ) (den : ℕ) : Type 0 where
@@ -33,7 +33,7 @@ pub record IsLineEquation (p : Problem) (at : List Mark) (quantity : (ℕ → �
       ≡ pos own *ℤ (num *ℤ x.num one_column)
   pub lowest : (k : ℕ) → k ∣ own → All (λ l. k ∣ unsigned_abs (by l.name)) (lines p) → k ≡ 1
 
--- the same where `own` and the numbers may have a common factor
+-- the same, but `own` and the numbers may have a common factor
 pub record IsLineSum (p : Problem) (at : List Mark) (quantity : (ℕ → ℤ) → ℤ) (own : ℕ) (by : RowName → ℤ)
     (num : ℤ) (den : ℕ) : Type 0 where
   pub own_positive : 0 < own
@@ -68,7 +68,7 @@ IsUnfitLine p own by num den = (low : ℕ) (part : RowName → ℤ) (value : Fra
 
 -- ---- forms of marks
 
--- which way the deviation goes where a mark of this side grows
+-- the sign of the deviation's change when a mark of this side grows
 abbrev pub sign_of : Side → ℤ
 sign_of Under = negsuc 0
 sign_of Over = pos 1
@@ -81,7 +81,7 @@ mark_form by (l ∷ ls) =
     ∷ record { attr = place_of l.name Under; by = neg_ℤ (by l.name) }
     ∷ mark_form by ls
 
--- the form of the line's inside mark, of this side: it grows with the other one, and as the deviation does
+-- the form of the line's inside mark, of this side: it grows with the other mark, and as the deviation does
 abbrev pub inside_form : Side → RowName → ℕ → (RowName → ℤ) → List Line → List Term
 inside_form side name own by ls =
     record { attr = place_of name (other_side side); by = pos own } ∷ mark_form (λ n. sign_of side *ℤ by n) ls

@@ -12,7 +12,7 @@ use Rattle.corner_lines.specs.LineEquations.{IsLineEquation, IsLineSum, deviatio
 
 -- ---- numbers
 
--- the leaving line's numbers, resolved for the entering line, whose number there has this sign
+-- the leaving line's numbers, solved for the entering line, whose number there has this sign
 pub record IsPivotRow (ls : List Line) (enter leave : RowName) (way : Side) (own : ℕ) (by : RowName → ℤ)
     (pivot : ℕ) (to : RowName → ℤ) : Type 0 where
   pub pivot_positive : 0 < pivot
@@ -21,7 +21,7 @@ pub record IsPivotRow (ls : List Line) (enter leave : RowName) (way : Side) (own
   pub at_leave : to leave ≡ sign_of way *ℤ pos own
   pub others : All (λ l. l.name ≢ enter → l.name ≢ leave → to l.name ≡ neg_ℤ (sign_of way *ℤ by l.name)) ls
 
--- the numbers where the entering line's is replaced by its own row
+-- the numbers with the entering line's number replaced by its own row
 pub record IsExchangedRow (ls : List Line) (enter : RowName) (pivot : ℕ) (to by result : RowName → ℤ)
     : Type 0 where
   pub at_enter : result enter ≡ pos 0
@@ -30,7 +30,7 @@ pub record IsExchangedRow (ls : List Line) (enter : RowName) (pivot : ℕ) (to b
 
 -- ---- laws
 
--- the leaving line's equation gives that of the entering line at the next corner: its value is the leaving
+-- the leaving line's equation gives the entering line's equation at the next corner: its value is the leaving
 -- line's times `own` over the entering line's number there, with the other sign
 abbrev pub IsResolved : Problem → List Mark → Swap → Type 0
 IsResolved p at s = (way : Side) (own : ℕ) (by : RowName → ℤ) (value : Fraction)
@@ -42,8 +42,8 @@ IsResolved p at s = (way : Side) (own : ℕ) (by : RowName → ℤ) (value : Fra
     (sum_den zero_fraction (pos pivot) value)
     → IsLineEquation p (exchanged s at) (deviation s.enter.row) pivot to num den
 
--- a quantity's equation, with the entering line's put in for its deviation: its value has grown by the number
--- over `own` times the entering line's value
+-- a quantity's equation, with the entering line's equation substituted for its deviation: its value has grown
+-- by the number over `own` times the entering line's value
 abbrev pub IsCarried : Problem → List Mark → Swap → ((ℕ → ℤ) → ℤ) → Type 0
 IsCarried p at s quantity = (own : ℕ) (by : RowName → ℤ) (value : Fraction)
     (pivot : ℕ) (to : RowName → ℤ) (enters : Fraction) (result : RowName → ℤ) (num : ℤ) (den : ℕ)
@@ -65,13 +65,13 @@ abbrev pub AllStay : Problem → List Mark → Swap → Type 0
 AllStay p at s = (quantity : (ℕ → ℤ) → ℤ) (own : ℕ) (by : RowName → ℤ) (num : ℤ) (den : ℕ)
     → IsLineEquation p at quantity own by num den → IsLineEquation p (exchanged s at) quantity own by num den
 
--- a column moves where a mark of this line grows, exactly where the line stands in its equation
+-- a column moves when a mark of this line grows, exactly if the line has a number in its equation
 abbrev pub MovesByLine : Problem → List Mark → RowName → Side → ℕ → Type 0
 MovesByLine p at name side c = (own : ℕ) (by : RowName → ℤ) (num : ℤ) (den : ℕ) (ray : ℕ → ℤ)
     → IsRay p at (place_of name side) ray → IsLineEquation p at (λ x. x c) own by num den
     → (ray c ≢ pos 0) ↔ (by name ≢ pos 0)
 
--- an inside mark moves there exactly where the line stands in the equation of its line, or is its line
+-- an inside mark moves there exactly if the line has a number in the equation of its line, or is its line
 abbrev pub MarkMovesByLine : Problem → List Mark → RowName → Side → RowName → Side → Type 0
 MarkMovesByLine p at name side inside to = (own : ℕ) (by : RowName → ℤ) (num : ℤ) (den : ℕ) (ray : ℕ → ℤ)
     → IsRay p at (place_of name side) ray → IsLineEquation p at (deviation inside) own by num den

@@ -1,4 +1,4 @@
--- What the laws of lines' equations say.
+-- The statements of the laws of lines' equations.
 use Rattle.std.specs.Prelude.{◌≡◌, ◌≢◌, ℕ, ◌<◌, List, ℤ, pos, ◌*ℤ◌, All}
 use Rattle.frac_core.specs.Fraction.{Fraction, Fits, IsFitting, IsLowest, IsRatio}
 use Rattle.problem_core.specs.declared.parts.Mark.{Mark}
@@ -32,7 +32,7 @@ abbrev pub HasLineNumbers : Problem → (RowName → ℤ) → Type 0
 HasLineNumbers p by = (side : Side) → All (λ l.
     coefficient (place_of l.name side) (mark_form by (lines p)) ≡ sign_of side *ℤ by l.name) (lines p)
 
--- in an inside mark's writing `own` stands at the other mark of its line, and at each other line's marks the
+-- in an inside mark's writing the other mark of its line has `own`, and each other line's marks have the
 -- line's number with both signs
 abbrev pub HasMarkNumbers : Problem → List Mark → RowName → Side → Type 0
 HasMarkNumbers p at name side = (own : ℕ) (by : RowName → ℤ) (num : ℤ) (den : ℕ)
@@ -52,20 +52,20 @@ IsReducible p at quantity = (own : ℕ) (by : RowName → ℤ) (num : ℤ) (den 
     → 0 < value.den → IsRatio value num (pos den)
     → IsLineEquation p at quantity low part value.num value.den
 
--- lowest terms that do not fit are all that there are
+-- lowest terms that do not fit are the only ones
 abbrev pub AreOnlyTerms : Problem → Type 0
 AreOnlyTerms p = (own : ℕ) (by : RowName → ℤ) (low : ℕ) (part : RowName → ℤ) (num : ℤ) (den : ℕ)
     → AreReduced (lines p) own by low part
     → (IsFitting (pos low) → All (λ l. IsFitting (part l.name)) (lines p) → ⊥)
     → IsUnfitLine p own by num den
 
--- where the lowest terms of a line's sum do not fit, its quantity has no writing that fits
+-- if the lowest terms of a line's sum do not fit, its quantity has no writing that fits
 abbrev pub IsToldUnfit : Problem → List Mark → ((ℕ → ℤ) → ℤ) → Type 0
 IsToldUnfit p at quantity = (own : ℕ) (by : RowName → ℤ) (num : ℤ) (den : ℕ)
     → IsLineSum p at quantity own by num den → IsUnfitLine p own by num den
     → HasNoWriting p at quantity
 
--- the same of a line's mark, by the sum of its deviation
+-- the same for a line's mark, by the sum of its deviation
 abbrev pub IsMarkToldUnfit : Problem → List Mark → RowName → Side → Type 0
 IsMarkToldUnfit p at name side = (own : ℕ) (by : RowName → ℤ) (num : ℤ) (den : ℕ)
     → IsLineSum p at (deviation name) own by num den → IsUnfitLine p own by num den

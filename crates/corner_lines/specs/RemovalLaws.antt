@@ -29,7 +29,7 @@ abbrev pub WithoutRowKeepsAttrs : Type 0
 WithoutRowKeepsAttrs = (p : Problem) (at : List Mark) (id attr : ℕ) (side : Side) → IsWhole p
     → IsCorner p at → IsIn (place_of (Held id) side) at → HoldsWithoutRow p at id (λ x. x (attr_column attr))
 
--- so do those of the other lines' deviations
+-- the equations of the other lines' deviations stay as they are too
 abbrev pub WithoutRowKeepsLines : Type 0
 WithoutRowKeepsLines = (p : Problem) (at : List Mark) (id : ℕ) (name : RowName) (side : Side) → IsWhole p
     → IsCorner p at → IsIn (place_of (Held id) side) at → name ≢ Held id
@@ -55,13 +55,13 @@ abbrev pub WithoutAttrKeepsAttrs : Type 0
 WithoutAttrKeepsAttrs = (p : Problem) (at : List Mark) (attr other : ℕ) → IsWhole p → IsCorner p at
     → IsFree p attr → other ≢ attr → HoldsWithoutAttr p at attr (λ x. x (attr_column other))
 
--- so do those of the inside lines' deviations
+-- the equations of the inside lines' deviations stay as they are too
 abbrev pub WithoutAttrKeepsLines : Type 0
 WithoutAttrKeepsLines = (p : Problem) (at : List Mark) (attr : ℕ) (name : RowName) (side : Side) → IsWhole p
     → IsCorner p at → IsFree p attr → IsIn (place_of name side) at
     → HoldsWithoutAttr p at attr (deviation name)
 
--- what does not fit beside such an attribute does not fit without it
+-- a quantity that does not fit beside such an attribute does not fit without it
 abbrev pub LeftIsUnfit : Type 0
 LeftIsUnfit = (p : Problem) (at : List Mark) (attr : ℕ) (what : What) → IsWhole p → IsCorner p at
     → IsFree p attr → IsUnfitWhat p at what → IsUnfitWhat (without_attr attr p) at what

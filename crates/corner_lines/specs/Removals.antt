@@ -11,7 +11,7 @@ use Rattle.corner_lines.specs.LineEquations.{IsLineEquation}
 abbrev pub without_row : ℕ → Problem → Problem
 without_row id p = record { rows = filter (λ r. cond (nat_eq r.id id) false true) p.rows; stays = p.stays }
 
--- an equation in which the row doesn't stand holds without it
+-- an equation without a number for the row holds without it
 abbrev pub HoldsWithoutRow : Problem → List Mark → ℕ → ((ℕ → ℤ) → ℤ) → Type 0
 HoldsWithoutRow p at id quantity = (own : ℕ) (by : RowName → ℤ) (num : ℤ) (den : ℕ)
     → IsLineEquation p at quantity own by num den → by (Held id) ≡ pos 0
@@ -24,12 +24,12 @@ abbrev pub without_attr : ℕ → Problem → Problem
 without_attr attr p =
     record { rows = p.rows; stays = filter (λ s. cond (nat_eq s.attr attr) false true) p.stays }
 
--- the attribute has a stay, and stands in no row
+-- the attribute has a stay, and is in no row
 pub record IsFree (p : Problem) (attr : ℕ) : Type 0 where
   pub held : HasStay p.stays attr
   pub free : All (λ r. All (λ t. t.attr ≢ attr) r.terms) p.rows
 
--- an equation of this quantity holds without it, and its stay doesn't stand there
+-- an equation of this quantity holds without it, and has no number for its stay
 abbrev pub HoldsWithoutAttr : Problem → List Mark → ℕ → ((ℕ → ℤ) → ℤ) → Type 0
 HoldsWithoutAttr p at attr quantity = (own : ℕ) (by : RowName → ℤ) (num : ℤ) (den : ℕ)
     → IsLineEquation p at quantity own by num den

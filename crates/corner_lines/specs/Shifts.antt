@@ -8,7 +8,7 @@ use Rattle.problem_core.specs.Layout.{Problem, Row, lines}
 use Rattle.corner_lines.specs.Fronts.{constantless}
 use Rattle.corner_lines.specs.LineEquations.{IsLineEquation, deviation}
 
--- the row with this constant, if its number is `id`, and else as it is
+-- the row with this constant, if its number is `id`, and otherwise as it is
 abbrev pub has_constant : ℕ → Fraction → Row → Row
 has_constant id f r = cond (nat_eq r.id id) (record {
   id = r.id;
@@ -24,11 +24,11 @@ has_constant id f r = cond (nat_eq r.id id) (record {
 abbrev pub with_constant : ℕ → Fraction → Problem → Problem
 with_constant id f p = record { rows = map (has_constant id f) p.rows; stays = p.stays }
 
--- the two problems have the same lines but for constants and targets
+-- the two problems have the same lines except for constants and targets
 abbrev pub AreSeenAlike : Problem → Problem → Type 0
 AreSeenAlike p q = map constantless (lines p) ≡ map constantless (lines q)
 
--- the problem has the row, its constant is `from`, and `more` is what `to` is above it
+-- the problem has the row, its constant is `from`, and `to` is `more` above it
 pub record IsShift (p : Problem) (id : ℕ) (from to more : Fraction) : Type 0 where
   pub held : Any (λ r. r.id ≡ id) p.rows
   pub constant : All (λ r. r.id ≡ id → r.constant ≡ from) p.rows
@@ -46,7 +46,7 @@ ShiftsByNumber p at id to more quantity = (own : ℕ) (by : RowName → ℤ) (va
     (sum_num value (by (Held id)) (pos own) more) (sum_den value (pos own) more)
     → IsLineEquation (with_constant id to p) at quantity own by num den
 
--- the row's deviation, where it is inside: its value falls by the difference
+-- if the row is inside, the value of its deviation falls by the difference
 abbrev pub ShiftsBack : Problem → List Mark → ℕ → Fraction → Fraction → Type 0
 ShiftsBack p at id to more = (own : ℕ) (by : RowName → ℤ) (value : Fraction) (num : ℤ) (den : ℕ)
     → IsLineEquation p at (deviation (Held id)) own by value.num value.den → by (Held id) ≡ pos 0

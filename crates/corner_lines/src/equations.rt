@@ -37,22 +37,22 @@ pub fn lowest_terms_are_one()
     ensures { LowestTermsAreOne }
 {}
 
-/// Where the lowest terms of a line's sum, or its value, do not fit, its quantity has no writing that fits.
+/// If the lowest terms of a line's sum, or its value, do not fit, its quantity has no writing that fits.
 pub fn unfit_from_line()
     ensures { UnfitFromLine }
 {}
 
-/// The same of an inside mark, by the sum of its line's deviation.
+/// The same for an inside mark, by the sum of its line's deviation.
 pub fn mark_unfit_from_line()
     ensures { MarkUnfitFromLine }
 {}
 
-/// Where a deviation has no writing that fits, its line's inside mark has none.
+/// If a deviation has no writing that fits, its line's inside mark has none.
 pub fn mark_unfit_from_deviation()
     ensures { MarkUnfitFromDeviation }
 {}
 
-/// The leaving line's equation gives that of the entering line at the next corner, in lowest terms.
+/// The leaving line's equation gives the entering line's equation at the next corner, in lowest terms.
 pub fn pivot_is_resolved()
     ensures { PivotIsResolved }
 {}
@@ -62,12 +62,12 @@ pub fn equation_is_carried()
     ensures { EquationIsCarried }
 {}
 
-/// An equation in which the entering line doesn't stand holds at the next corner.
+/// An equation without a number for the entering line holds at the next corner.
 pub fn equation_stays()
     ensures { EquationStays }
 {}
 
-/// Where the two marks of a line are exchanged, all equations stay.
+/// If the two marks of a line are exchanged, all equations stay.
 pub fn turn_keeps_equations()
     ensures { TurnKeepsEquations }
 {}
@@ -77,22 +77,23 @@ pub fn turn_is_exchange()
     ensures { TurnIsExchange }
 {}
 
-/// A mark of a line that stands in an inside line's equation can be exchanged for that line's mark.
+/// If a line has a number in an inside line's equation, its marks can be exchanged for that line's inside
+/// mark.
 pub fn line_is_exchange()
     ensures { LineIsExchange }
 {}
 
-/// Which columns move where a mark grows.
+/// Which columns move when a mark grows.
 pub fn line_moves()
     ensures { LineMoves }
 {}
 
-/// Which inside marks move where a mark grows.
+/// Which inside marks move when a mark grows.
 pub fn mark_moves()
     ensures { MarkMoves }
 {}
 
-/// Where its value doesn't fit, a line's sum doesn't.
+/// If its value doesn't fit, a line's sum doesn't.
 pub fn unfit_from_value()
     ensures { UnfitFromValue }
 {}

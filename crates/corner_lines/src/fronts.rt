@@ -6,8 +6,8 @@ ghost use Rattle.corner_lines.specs.Fronts.{JoinedCostsAreAlike, MovedLevelsStay
 ghost use Rattle.corner_lines.specs.Fronts.{NewStayLeavesLevels, NoFrontIsNot, NoNegativeFronts};
 ghost use Rattle.corner_lines.specs.Fronts.{PositiveFrontIsNot, ReducedElsewhere};
 
-/// Where a line is not of a level, its mark's reduced cost there is its number, with the other sign of an
-/// under mark.
+/// If a line is not of a level, its mark's reduced cost there is its number, with the other sign for an under
+/// mark.
 pub fn reduced_elsewhere()
     ensures { ReducedElsewhere }
 {}
@@ -17,17 +17,17 @@ pub fn negative_front_is_negative()
     ensures { NegativeFrontIsNegative }
 {}
 
-/// A front above 0 is none, by any multipliers of the corner.
+/// A column with a front above 0 is not negative, by any multipliers of the corner.
 pub fn positive_front_is_not()
     ensures { PositiveFrontIsNot }
 {}
 
-/// Nor are costs that are 0 at all levels.
+/// A column whose costs are 0 at all levels isn't negative either.
 pub fn no_front_is_not()
     ensures { NoFrontIsNot }
 {}
 
-/// Where no outside mark has a front below 0, no column is negative.
+/// If no outside mark has a front below 0, no column is negative.
 pub fn no_negative_fronts()
     ensures { NoNegativeFronts }
 {}
@@ -37,7 +37,7 @@ pub fn alike_costs_keep_sign()
     ensures { AlikeCostsKeepSign }
 {}
 
-/// And their front.
+/// Positive multiples of costs keep their front.
 pub fn alike_fronts_are_fronts()
     ensures { AlikeFrontsAreFronts }
 {}
@@ -47,17 +47,18 @@ pub fn exchanged_costs_are_alike()
     ensures { ExchangedCostsAreAlike }
 {}
 
-/// After a join those of lines that are not in the joining line's equation are.
+/// After a join the costs of lines that are not in the joining line's equation are positive multiples of
+/// those before.
 pub fn joined_costs_are_alike()
     ensures { JoinedCostsAreAlike }
 {}
 
-/// Where a level's unit grows all are.
+/// If a level's unit grows, all costs are positive multiples of those before.
 pub fn grown_costs_are_alike()
     ensures { GrownCostsAreAlike }
 {}
 
-/// Where constants alone have changed, units and rows of levels are as before.
+/// If only constants have changed, units and rows of levels are as before.
 pub fn moved_levels_stay()
     ensures { MovedLevelsStay }
 {}

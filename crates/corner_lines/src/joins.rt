@@ -1,4 +1,4 @@
-// The laws of a row that joins, each the contract of a function that does nothing.
+// The laws of a row or an attribute that joins, each the contract of a function that does nothing.
 ghost use Rattle.corner_lines.specs.JoinLaws.{AttrIsOwnDeviation, AttrJoinsCorner, AttrJoinsRays};
 ghost use Rattle.corner_lines.specs.JoinLaws.{EquationsHoldWithAttr, EquationsHoldWithRow, JoinedHasRays};
 ghost use Rattle.corner_lines.specs.JoinLaws.{JoinedIsCorner, JoinedTurns, JoinedUnderHasRays};
@@ -15,7 +15,7 @@ pub fn joined_is_corner()
     ensures rays { JoinedHasRays }
 {}
 
-/// All equations hold there in which the row doesn't stand.
+/// All equations without a number for the row hold there.
 pub fn equations_hold_with_row()
     ensures { EquationsHoldWithRow }
 {}
@@ -35,12 +35,12 @@ pub fn terms_give_deviation()
     ensures { TermsGiveDeviation }
 {}
 
-/// A sum of the first terms that has no writing that fits is what a stop names.
+/// If a sum of the first terms has no writing that fits, it may be the quantity that a stop names.
 pub fn terms_are_unfit()
     ensures { TermsAreUnfit }
 {}
 
-/// So is the whole sum less the constant, where the over mark has none.
+/// If the over mark has no writing that fits, so may the whole sum less the constant.
 pub fn last_terms_are_unfit()
     ensures { LastTermsAreUnfit }
 {}
@@ -56,7 +56,7 @@ pub fn joined_under_is_corner()
     ensures rays { JoinedUnderHasRays }
 {}
 
-/// All equations are as where the row is over.
+/// All equations are the same whether the row is over or under.
 pub fn joined_under_keeps_equations()
     ensures { JoinedUnderKeepsEquations }
 {}
@@ -68,12 +68,12 @@ pub fn attr_joins_corner()
     ensures rays { AttrJoinsRays }
 {}
 
-/// All equations hold there in which the new stay doesn't stand.
+/// All equations without a number for the new stay hold there.
 pub fn equations_hold_with_attr()
     ensures { EquationsHoldWithAttr }
 {}
 
-/// The new attribute is its stay's target and deviation.
+/// The new attribute is its stay's target plus its stay's deviation.
 pub fn attr_is_own_deviation()
     ensures { AttrIsOwnDeviation }
 {}
@@ -90,12 +90,12 @@ pub fn stood_keeps_attrs()
     ensures { StoodKeepsAttrs }
 {}
 
-/// So do those of rows' deviations.
+/// The equations of rows' deviations stay as they are.
 pub fn stood_keeps_rows()
     ensures { StoodKeepsRows }
 {}
 
-/// Those of the stays' deviations keep their numbers, and their values come to 0.
+/// The equations of the stays' deviations keep their numbers, and their values become 0.
 pub fn stood_clears_stays()
     ensures { StoodClearsStays }
 {}
@@ -105,7 +105,7 @@ pub fn path_begins_with_none()
     ensures { PathBeginsWithNone }
 {}
 
-/// Where rows have joined one by one, each with its mark that is not negative, a path begins.
+/// After rows have joined one by one, each with its mark that is not negative, a path begins.
 pub fn path_begins_with_more()
     ensures { PathBeginsWithMore }
 {}

@@ -39,53 +39,54 @@ pub fn equation_is_pivot()
     ensures { EquationIsPivot }
 {}
 
-/// It is solved for another line by a number that turns that line's one below 0.
+/// It is solved for another line if it is multiplied by a number with which that line's number is below 0.
 pub fn pivot_is_solved()
     ensures { PivotIsSolved }
 {}
 
 // ---- exchanges and turns
 
-/// After an exchange a multiple of the level's row and one of the pivot are its row before it is divided.
+/// After an exchange a multiple of the level's row plus a multiple of the pivot is its row before it is
+/// divided.
 pub fn exchanged_row_is_multiple()
     ensures { ExchangedRowIsMultiple }
 {}
 
-/// Divided to lowest terms they are its row.
+/// Divided to lowest terms it is the level's row.
 pub fn exchanged_row_is_row()
     ensures { ExchangedRowIsRow }
 {}
 
-/// Where the other mark of an inside line enters, a multiple of the row and one of the line's equation are
-/// the row before it is divided.
+/// If the other mark of an inside line enters, a multiple of the row plus a multiple of the line's equation
+/// is the row before it is divided.
 pub fn turned_row_is_multiple()
     ensures { TurnedRowIsMultiple }
 {}
 
-/// Divided to lowest terms they are the level's row.
+/// Divided to lowest terms it is the level's row.
 pub fn turned_row_is_row()
     ensures { TurnedRowIsRow }
 {}
 
-/// A level that neither mark of an exchange costs anything at keeps its row.
+/// A level at which neither mark of an exchange costs anything keeps its row.
 pub fn untouched_row_stays()
     ensures { UntouchedRowStays }
 {}
 
 // ---- joins
 
-/// A level no line of which has a weight has a row of zeros.
+/// A level without a line that has a weight has a row of zeros.
 pub fn empty_level_has_row()
     ensures { EmptyLevelHasRow }
 {}
 
-/// When all rows of a change have joined the corner, but none its level, each level has its unit and row
-/// from before.
+/// When all rows of a change have joined the corner, and none its level, each level has its unit and row from
+/// before.
 pub fn joining_rows_are_free()
     ensures { JoiningRowsAreFree }
 {}
 
-/// The lines where one row more of a level has its weight are those before, but for that weight.
+/// The lines after one more row of a level gets its weight are the lines before, except for that weight.
 pub fn one_row_more_joins()
     ensures { OneRowMoreJoins }
 {}
@@ -95,25 +96,25 @@ pub fn all_rows_have_joined()
     ensures { AllRowsHaveJoined }
 {}
 
-/// With a line's weight the unit is the least common multiple of that before and of the line's scale over
-/// its common divisor with the weight.
+/// With a line's weight the unit is the least common multiple of two numbers: the unit before, and the line's
+/// scale over its common divisor with the weight.
 pub fn joined_unit_is_unit()
     ensures { JoinedUnitIsUnit }
 {}
 
-/// Where a level's unit grows its row stays in lowest terms: its numbers and its own number divided by what
-/// they now have in common.
+/// If a level's unit grows, its row stays in lowest terms: its numbers and its own number are divided by
+/// their new common divisor.
 pub fn grown_row_is_row()
     ensures { GrownRowIsRow }
 {}
 
-/// Where a line joins its level, a multiple of the row and one of the line's equation are the row before it
-/// is divided.
+/// If a line joins its level, a multiple of the row plus a multiple of the line's equation is the row before
+/// it is divided.
 pub fn joined_row_is_multiple()
     ensures { JoinedRowIsMultiple }
 {}
 
-/// Divided to lowest terms they are the level's row.
+/// Divided to lowest terms it is the level's row.
 pub fn joined_row_is_row()
     ensures { JoinedRowIsRow }
 {}
@@ -125,26 +126,26 @@ pub fn free_row_changes_nothing()
 
 // ---- a line that leaves its level
 
-/// Where a line leaves its level, a multiple of the row and one of the line's equation are the row before
+/// If a line leaves its level, a multiple of the row plus a multiple of the line's equation is the row before
 /// it is divided.
 pub fn left_row_is_multiple()
     ensures { LeftRowIsMultiple }
 {}
 
-/// Divided to lowest terms they are the level's row.
+/// Divided to lowest terms it is the level's row.
 pub fn left_row_is_row()
     ensures { LeftRowIsRow }
 {}
 
-/// Where a level's unit shrinks, its own number grows, and the row is divided.
+/// If a level's unit shrinks, its own number grows, and the row is divided.
 pub fn shrunk_row_is_row()
     ensures { ShrunkRowIsRow }
 {}
 
 // ---- costs
 
-/// An exchange adds to the level's cost the entering line's deviation, as often as the entering number over
-/// its scale.
+/// An exchange adds the entering line's deviation times the entering number over the scale to the level's
+/// cost.
 pub fn exchanged_cost_is_cost()
     ensures { ExchangedCostIsCost }
 {}
@@ -154,12 +155,12 @@ pub fn turned_cost_is_cost()
     ensures { TurnedCostIsCost }
 {}
 
-/// A join adds to the level's cost the joining line's deviation, as often as it counts, over the unit.
+/// A join adds the joining line's deviation times its count over the unit to the level's cost.
 pub fn joined_cost_is_cost()
     ensures { JoinedCostIsCost }
 {}
 
-/// A line that leaves its level takes away from its cost what it counted.
+/// A line that leaves its level takes its count's share of the cost away.
 pub fn left_cost_is_cost()
     ensures { LeftCostIsCost }
 {}
@@ -169,7 +170,7 @@ pub fn joining_rows_cost_nothing()
     ensures { JoiningRowsCostNothing }
 {}
 
-// ---- what fits
+// ---- fitting
 
 /// A whole problem's scales and denominators are above 0, its lines have different names, and no weight is
 /// too large.
@@ -177,62 +178,63 @@ pub fn whole_is_sound()
     ensures { WholeIsSound }
 {}
 
-/// So are those of a level's first rows; and their corners and rays are those of all.
+/// The problem with only a level's first rows is sound too, and its corners and rays are those of the whole
+/// problem.
 pub fn first_rows_are_sound()
     ensures { FirstRowsAreSound }
 {}
 
-/// The order of a corner's marks is free.
+/// A level's row and cost don't depend on the order of a corner's marks.
 pub fn order_is_free()
     ensures { OrderIsFree }
 {}
 
-/// Where a level's row and its cost fit, it has a writing that fits.
+/// If a level's row and its cost fit, it has a writing that fits.
 pub fn fitting_row_has_writing()
     ensures { FittingRowHasWriting }
 {}
 
-/// Where they do not both fit, it has none.
+/// If they do not both fit, it has none.
 pub fn unfit_row_has_no_writing()
     ensures { UnfitRowHasNoWriting }
 {}
 
-/// Where no lowest terms of a level's row fit, it has none.
+/// If no lowest terms of a level's row fit, it has none.
 pub fn unfit_multiple_has_no_writing()
     ensures { UnfitMultipleHasNoWriting }
 {}
 
-/// A level's row fits where its scale and its numbers are small.
+/// A level's row fits if its scale and its numbers are small.
 pub fn small_row_fits()
     ensures { SmallRowFits }
 {}
 
-/// The entering number of an exchange fits where the level's row does.
+/// The entering number of an exchange fits if the level's row does.
 pub fn entering_number_fits()
     ensures { EnteringNumberFits }
 {}
 
-/// So does that of a turn.
+/// So does the entering number of a turn.
 pub fn turning_number_fits()
     ensures { TurningNumberFits }
 {}
 
-/// So does what the leaving line counts.
+/// So does the leaving line's count.
 pub fn leaving_number_fits()
     ensures { LeavingNumberFits }
 {}
 
-/// Where the sum after an exchange does not fit in lowest terms, the level has no writing that fits.
+/// If the sum after an exchange does not fit in lowest terms, the level has no writing that fits.
 pub fn unfit_exchanged_cost()
     ensures { UnfitExchangedCost }
 {}
 
-/// Nor has it where the sum after a turn does not fit.
+/// If the sum after a turn does not fit, it has none either.
 pub fn unfit_turned_cost()
     ensures { UnfitTurnedCost }
 {}
 
-/// Where the sum after a join does not fit in lowest terms, the level has no writing that fits.
+/// If the sum after a join does not fit in lowest terms, the level has no writing that fits.
 pub fn unfit_joined_cost()
     ensures { UnfitJoinedCost }
 {}
@@ -249,57 +251,57 @@ pub fn sum_is_unfit()
 
 // ---- stays' levels
 
-/// A stay stands alone at its level.
+/// A stay is alone at its level.
 pub fn stay_stands_alone()
     ensures { StayStandsAlone }
 {}
 
-/// The equation of a stay inside is the row of its level, in units of 1.
+/// The equation of an inside stay is the row of its level, in units of 1.
 pub fn inside_stay_has_row()
     ensures { InsideStayHasRow }
 {}
 
-/// What a stay inside costs its level is its deviation.
+/// The cost of an inside stay's level is the stay's deviation.
 pub fn inside_stay_costs()
     ensures { InsideStayCosts }
 {}
 
-/// Where the equation of a stay inside fits, its level does if twice the stay's own number fits.
+/// If the equation of an inside stay fits, and twice the stay's own number, its level fits.
 pub fn inside_stay_fits()
     ensures { InsideStayFits }
 {}
 
-/// And if not, its level has no writing that fits.
+/// If twice that number does not fit, its level has no writing that fits.
 pub fn inside_stay_is_unfit()
     ensures { InsideStayIsUnfit }
 {}
 
-/// The level of a stay outside has a row of zeros.
+/// The level of an outside stay has a row of zeros.
 pub fn outside_stay_has_row()
     ensures { OutsideStayHasRow }
 {}
 
-/// At its level both marks of a stay outside cost 1.
+/// At its level both marks of an outside stay cost 1.
 pub fn outside_stay_costs_one()
     ensures { OutsideStayCostsOne }
 {}
 
-/// The level of a stay outside always has a writing that fits.
+/// The level of an outside stay always has a writing that fits.
 pub fn outside_stay_fits()
     ensures { OutsideStayFits }
 {}
 
-/// The level of a stay inside is not what does not fit where twice the stay's own number fits.
+/// If twice an inside stay's own number fits, the stay's level is no quantity that does not fit.
 pub fn stay_level_fits()
     ensures { StayLevelFits }
 {}
 
-/// And it is where that does not.
+/// If it does not, the level is such a quantity.
 pub fn stay_level_is_unfit()
     ensures { StayLevelIsUnfit }
 {}
 
-/// The level of a stay outside never is.
+/// The level of an outside stay is never such a quantity.
 pub fn outside_stay_level_fits()
     ensures { OutsideStayLevelFits }
 {}

@@ -1,27 +1,31 @@
-//! What is written at a corner, by lines: of an attribute or an inside line one row of whole numbers,
-//! `own * quantity = own * value + sum of by * deviation` over the outside lines, without a common factor.
+//! The equations of lines at a corner. An attribute or an inside line has one row of whole numbers without a
+//! common factor, over the outside lines:
 //!
-//! The main word is `IsLineEquation` in `specs/LineEquations.antt`. Of a row `x >= 5` and a stay that draws
-//! x to 0 there is written, where x is 5 and the row is outside:
+//! ```text
+//! own * quantity = own * value + sum of by * deviation
+//! ```
+//!
+//! The main definition is `IsLineEquation` in `specs/LineEquations.antt`. For a row `x >= 5` and a stay that
+//! draws x to 0, at the corner where x is 5 and the row is outside, the equations are:
 //!
 //! ```text
 //! 1 * x = 1 * 5 + 1 * deviation of the row
 //! 1 * deviation of the stay = 1 * 5 + 1 * deviation of the row
 //! ```
 //!
-//! A corner that is kept as such rows is shown to meet the words of marks by the laws here, each the
-//! contract of a function that does nothing.
+//! The laws here, each the contract of a function that does nothing, show that a corner kept as such rows
+//! satisfies the definitions by marks.
 //!
-//! A priority level has one such row too, `IsLevelRow`: an inside line of the level counts implicitly. The
-//! laws say what the row becomes at an exchange, a turn, a join and a departure, what the level then costs,
-//! when it fits, and that the sign of a column is that of its first number that isn't 0, its front.
+//! A priority level has one such row too, `IsLevelRow`. Its inside lines count implicitly. The laws say how
+//! the row changes at an exchange, a turn, a join and a departure, how much the level costs then, and when it
+//! fits. The sign of a column is the sign of its first number that isn't 0, its front.
 //!
-//! What a line equation keeps: `own` is above 0, only outside lines have a number that isn't 0, and 1 alone
-//! divides `own` and all the numbers.
+//! A line equation keeps three facts: `own` is above 0, only outside lines have a number that isn't 0, and
+//! only 1 divides `own` and all the numbers.
 //!
 //! Linear programming's words: the marks inside a corner are its basis, and an exchange is a pivot. A line
-//! equation is a row of the tableau, in which the slack and the surplus of a constraint, whose columns are
-//! opposite, share one. The row of a level is an objective row, from which the reduced costs of its marks
+//! equation is a row of the tableau. The slack and the surplus of a constraint, whose columns are opposite,
+//! share one column there. The row of a level is an objective row, from which the reduced costs of its marks
 //! follow.
 //!
 //! In reading order: `equations` (writings, lowest terms, what does not fit, exchanges and what moves),

@@ -17,7 +17,7 @@ pub fn without_row_keeps_attrs()
     ensures { WithoutRowKeepsAttrs }
 {}
 
-/// So do those of the other lines' deviations.
+/// The equations of the other lines' deviations stay as they are too.
 pub fn without_row_keeps_lines()
     ensures { WithoutRowKeepsLines }
 {}
@@ -39,12 +39,12 @@ pub fn without_attr_keeps_attrs()
     ensures { WithoutAttrKeepsAttrs }
 {}
 
-/// So do those of the inside lines' deviations.
+/// The equations of the inside lines' deviations stay as they are too.
 pub fn without_attr_keeps_lines()
     ensures { WithoutAttrKeepsLines }
 {}
 
-/// What does not fit beside such an attribute does not fit without it.
+/// A quantity that does not fit beside such an attribute does not fit without it.
 pub fn left_is_unfit()
     ensures { LeftIsUnfit }
 {}

@@ -8,17 +8,18 @@ pub fn shifted_is_corner()
     ensures rays { ShiftedHasRays }
 {}
 
-/// An attribute's equation keeps its numbers, and its value grows by the row's.
+/// An attribute's equation keeps its numbers. Its value grows by the row's number over `own` times the
+/// difference.
 pub fn shift_moves_attrs()
     ensures { ShiftMovesAttrs }
 {}
 
-/// So does that of another line's deviation.
+/// So does the equation of another line's deviation.
 pub fn shift_moves_lines()
     ensures { ShiftMovesLines }
 {}
 
-/// The row's own deviation, where it is inside, falls by the difference.
+/// If the row is inside, the value of its own deviation falls by the difference.
 pub fn shift_moves_row()
     ensures { ShiftMovesRow }
 {}

@@ -1,4 +1,4 @@
--- The rows that a format asks for, with no name of a view left.
+-- The rows that a format asks for, without names of views.
 use Rattle.std.specs.Prelude.{◌≡◌, ◌≤◌, List, [], ◌∷◌, ◌++◌, All, Option, true, false}
 use Rattle.std.specs.List.{AllZip}
 use Rattle.std.specs.Option.{option_to_list}
@@ -16,23 +16,23 @@ use Rattle.format_compile.specs.declared.asks.Asked.{Asked}
 use Rattle.compile_parts.specs.declared.stops.KindWord.{KindWord}
 use Rattle.compile_parts.specs.declared.stops.KindWord.TheVariants as kind
 
--- what the row adds on its left side, in order
+-- the row's addends on its left side, in order
 abbrev pub added : Ask → List Addend
 added a = a.plus ∷ (option_to_list a.minus ++ a.object ∷ [])
 
--- what holds of a row that is asked for, whatever the names were
+-- the invariant of a row that a format asks for, whatever the names were
 pub record IsKeptAsk (a : Ask) : Type 0 where
   pub added : All IsKept (added a)
   pub rank : a.rank ≤ REQUIRED
 
--- the row is that of the line
+-- the row is the line's
 pub record IsAsk (views : List LiveView) (metrics : MetricList) (l : Linear) (a : Ask) : Type 0 where
   pub added : addends_view (added a) ≡ addends views (terms_of l)
   pub rel : a.rel ≡ l.rel
   pub weight : l.weight ≡ 1
   pub rank : IsRank views metrics l.priority a.rank
 
--- the rows are those of the lines, in order
+-- the rows are the lines', in order
 abbrev pub AreAsks : List LiveView → MetricList → List Linear → List Ask → Type 0
 AreAsks views metrics lines asks = AllZip (IsAsk views metrics) lines asks
 

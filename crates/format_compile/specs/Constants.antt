@@ -1,4 +1,4 @@
--- What is meant where a format says nothing, written out.
+-- The usual spaces of a format, written out.
 use Rattle.std.specs.Prelude.{◌≡◌}
 use Rattle.format_compile.specs.declared.lists.TheConstants.{USUAL_BETWEEN, USUAL_INSIDE}
 

@@ -1,4 +1,4 @@
--- What is known of the rows of a format while they are made.
+-- The rows of a format while they are made.
 use Rattle.std.specs.Prelude.{◌≡◌, ⊤, ℕ, ◌+◌, List, [], ◌∷◌, ◌++◌, length, map, Option, None, Some}
 use Rattle.std.specs.List.{Any}
 use Rattle.std.specs.Option.{option_or}
@@ -24,8 +24,8 @@ IsFound views metrics lines first rows
 IsFound views metrics lines first rows (Some limit.Constant) = PassesFirst views metrics lines limit.Constant
 IsFound views metrics lines first rows (Some _) = ⊥
 
--- whatever lines the old rows or limit are found for, the new are found for these and the one asked for,
--- whose row has this number
+-- if the old rows or limit are found for some lines, the new ones are found for these and the line of the
+-- ask, whose row has this number
 abbrev pub IsFoundWith : MetricList → Ask → ℕ → Found → Found → Type 0
 IsFoundWith metrics ask id old new = (views : List LiveView) (lines : List Linear) (l : Linear) (first : ℕ)
     → IsAsk views metrics l ask → id ≡ first + length lines

@@ -1,4 +1,4 @@
--- What follows from the definitions of a format's rows alone.
+-- The laws that follow from the definitions of a format's rows alone.
 use Rattle.std.specs.Prelude.{◌≡◌, ℕ, List, Option, length}
 use Rattle.vfl_text.specs.Formats.{FormatMeaning}
 use Rattle.script_text.specs.declared.words.Align.{Align}
@@ -12,20 +12,20 @@ use Rattle.format_compile.specs.FormatRows.{IsCompiledFormat, MayStopFormat}
 use Rattle.compile_parts.specs.declared.stops.CompileStop as declared_stop
 use Rattle.compile_parts.specs.declared.stops.CompileStop.TheVariants.{OutOfMemory}
 
--- a format that is compiled has as many rows as it asks for
+-- a compiled format has as many rows as it asks for
 abbrev pub CompiledFormatsHaveAllRows : Type 0
 CompiledFormatsHaveAllRows = (views : List LiveView) (metrics : MetricList) (f : FormatMeaning)
     (align : Option Align) (d : Direction) (first : ℕ) (c : CompiledLine)
     → IsCompiledFormat views metrics f align d first c → length c.rows ≡ row_count views (parts f align d)
 
--- a format that is compiled has no cause of refusal, but for want of memory
+-- a compiled format has no cause of refusal except lack of memory
 abbrev pub CompiledFormatsHaveNoRefusal : Type 0
 CompiledFormatsHaveNoRefusal = (views : List LiveView) (metrics : MetricList) (f : FormatMeaning)
     (align : Option Align) (d : Direction) (first : ℕ) (c : CompiledLine) (stop : declared_stop.CompileStop)
     → IsCompiledFormat views metrics f align d first c → MayStopFormat views metrics f align d first stop
     → stop ≡ OutOfMemory
 
--- a format has one cause of refusal at most, but for want of memory
+-- a format has at most one cause of refusal except lack of memory
 abbrev pub FormatRefusalIsUnique : Type 0
 FormatRefusalIsUnique = (views : List LiveView) (metrics : MetricList) (f : FormatMeaning)
     (align : Option Align) (d : Direction) (first : ℕ) (one other : declared_stop.CompileStop)

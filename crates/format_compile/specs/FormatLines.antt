@@ -17,7 +17,7 @@ use Rattle.format_compile.specs.declared.parts.Owner.TheVariants as owner
 use Rattle.format_compile.specs.FormatParts.{End, Span, Part, View, Bar, Asks}
 use Rattle.format_compile.specs.FormatRefusals.{parent_of}
 
--- the name of the view, or an empty one where there is no view
+-- the name of the view, or an empty one if there is no view
 abbrev pub name_in : Option LiveView → List ℕ
 name_in None = []
 name_in (Some v) = v.name
@@ -46,7 +46,7 @@ abbrev pub number : ℤ → Fraction
 number (pos n) = decimal false n
 number (negsuc n) = decimal true (n + 1)
 
--- what the object stands for: the same attribute of another view where it names one, otherwise a number or a
+-- the meaning of the object: the same attribute of another view if it names one, otherwise a number or a
 -- metric
 abbrev pub object_term : List LiveView → AttrWord → Meant → Term
 object_term views w (object.Number z) = record { by = number z; of = mean.One }
@@ -55,7 +55,7 @@ object_term views w (object.Name name) = record {
   of = (if is_some (view_named views name) then mean.Attr name w else mean.Metric name);
 }
 
--- the first end is so related to the second one, if there is one, with the object added
+-- the first end has the relation to the second one, if there is one, with the object added
 abbrev pub line_of : List LiveView → Span → PredMeaning → Linear
 line_of views s p = record {
   left = end_term views s.plus ∷ [];
@@ -72,7 +72,7 @@ lines_of views (View name ∷ ps) = lines_of views ps
 lines_of views (Bar name ∷ ps) = lines_of views ps
 lines_of views (Asks span pred ∷ ps) = line_of views span pred ∷ lines_of views ps
 
--- ---- the views that the text names
+-- ---- the views in the text
 
 -- the number of the live view of this name, if there is one
 abbrev pub ids_named : List LiveView → List ℕ → List ℕ
@@ -83,13 +83,13 @@ abbrev pub object_views : List LiveView → Meant → List ℕ
 object_views views (object.Number z) = []
 object_views views (object.Name name) = ids_named views name
 
--- the number of the live view that the text of a part names, if it names one; a bar names none
+-- the number of the live view in the text of a part, if there is one; a bar names none
 abbrev pub part_views : List LiveView → Part → List ℕ
 part_views views (View name) = ids_named views name
 part_views views (Bar name) = []
 part_views views (Asks span pred) = object_views views pred.object
 
--- the numbers of the live views that the text of the parts names, in order
+-- the numbers of the live views in the text of the parts, in order
 abbrev pub parts_views : List LiveView → List Part → List ℕ
 parts_views views [] = []
 parts_views views (p ∷ ps) = part_views views p ++ parts_views views ps

@@ -1,4 +1,4 @@
--- A format as one list of what it says, in the order of its text, the alignment behind all of it.
+-- A format as one list of parts, in the order of its text, and after them the alignment.
 use Rattle.std.specs.Prelude.{ℕ, pos, List, [], ◌∷◌, ◌++◌, map, Option, Some, None}
 use Rattle.problem_core.specs.declared.parts.Rel.TheVariants as rel
 use Rattle.span_text.specs.Objects as object
@@ -24,20 +24,20 @@ pub record End : Type 0 where
   pub view : List ℕ
   pub word : AttrWord
 
--- what a row measures: the first end less the second, or the first alone, which is then a size
+-- the measure of a row: the first end less the second, or the first alone, which is then a size
 pub record Span : Type 0 where
   pub plus : End
   pub minus : Option End
 
--- the name of a view, the parent's bar beside a view, and a row that is asked for
+-- the name of a view, the parent's bar beside a view, and a row that the format asks for
 pub data Part : Type 0 where
   View : List ℕ → Part
   Bar : List ℕ → Part
   Asks : Span → PredMeaning → Part
 
--- ---- what is measured
+-- ---- measures
 
--- the way of a horizontal format
+-- the course of a horizontal format
 abbrev pub course_across : Direction → Course
 course_across direction.Ltr = course.Rightwards
 course_across direction.Rtl = course.Leftwards
@@ -47,7 +47,7 @@ abbrev pub course_of : Direction → Axis → Course
 course_of d axis.H = course_across d
 course_of d axis.V = course.Downwards
 
--- the edge at which a view begins on this way
+-- the edge at which a view begins on this course
 abbrev pub near : Course → AttrWord
 near course.Rightwards = word.Left
 near course.Leftwards = word.Right
@@ -59,13 +59,13 @@ far course.Rightwards = word.Right
 far course.Leftwards = word.Left
 far course.Downwards = word.Bottom
 
--- its size along this way
+-- its size along this course
 abbrev pub extent : Course → AttrWord
 extent course.Rightwards = word.Width
 extent course.Leftwards = word.Width
 extent course.Downwards = word.Height
 
--- how far it is from one end on to the other: the greater less the lesser
+-- the distance from one end on to the other: the greater less the lesser
 abbrev pub onwards : Course → End → End → Span
 onwards course.Rightwards from to = record { plus = to; minus = Some from }
 onwards course.Leftwards from to = record { plus = from; minus = Some to }
@@ -95,7 +95,7 @@ inside_far c name = onwards c (own name (far c)) (parents name (far c))
 abbrev pub size : Course → List ℕ → Span
 size c name = record { plus = own name (extent c); minus = None }
 
--- how far the view is off the one before it
+-- the offset of the view from the one before it
 abbrev pub off : AttrWord → List ℕ → List ℕ → Span
 off w before name = record { plus = own name w; minus = Some (own before w) }
 
@@ -105,11 +105,11 @@ off w before name = record { plus = own name w; minus = Some (own before w) }
 abbrev pub exactly : ℕ → PredMeaning
 exactly n = record { rel = rel.Eq; object = object.Number (pos n); priority = None }
 
--- for each predicate a row that measures this
+-- for each predicate a row with this measure
 abbrev pub asks : Span → List PredMeaning → List Part
 asks s ps = map (Asks s) ps
 
--- a connection, and the space that is usual there, in thousandths
+-- a connection, with its usual space in thousandths
 abbrev pub spacing_parts : Span → ℕ → SpacingMeaning → List Part
 spacing_parts s usual Flush = Asks s (exactly 0) ∷ []
 spacing_parts s usual Standard = Asks s (exactly usual) ∷ []
@@ -119,7 +119,7 @@ spacing_parts s usual (Given ps) = asks s ps
 abbrev pub item_parts : Course → ItemMeaning → List Part
 item_parts c i = View i.name ∷ asks (size c i.name) i.sizes
 
--- the views behind the one of this name, each with the connection before it
+-- the views after the one of this name, each with the connection before it
 abbrev pub chain_parts : Course → List ℕ → List SpacingMeaning → List ItemMeaning → List Part
 chain_parts c before [] is = []
 chain_parts c before (g ∷ gs) [] = []
@@ -131,7 +131,7 @@ abbrev pub leading_parts : Course → List ℕ → Option SpacingMeaning → Lis
 leading_parts c name None = []
 leading_parts c name (Some g) = Bar name ∷ spacing_parts (inside_near c name) USUAL_INSIDE g
 
--- the parent's bar behind the view of this name, and the connection to it, if there is one
+-- the parent's bar after the view of this name, and the connection to it, if there is one
 abbrev pub back_parts : Course → List ℕ → Option SpacingMeaning → List Part
 back_parts c name None = []
 back_parts c name (Some g) = Bar name ∷ spacing_parts (inside_far c name) USUAL_INSIDE g
@@ -147,25 +147,24 @@ aligned_word align.Bottom = word.Bottom
 aligned_word align.CenterX = word.CenterX
 aligned_word align.CenterY = word.CenterY
 
--- the views behind the one of this name, each aligned with the one before it
+-- the views after the one of this name, each aligned with the one before it
 abbrev pub aligned_parts : AttrWord → List ℕ → List ItemMeaning → List Part
 aligned_parts w before [] = []
 aligned_parts w before (i ∷ is) = Asks (off w before i.name) (exactly 0) ∷ aligned_parts w i.name is
 
--- the rows of the alignment, if there is one, of the views behind the one of this name
+-- the rows of the alignment, if there is one, of the views after the one of this name
 abbrev pub align_parts : Option Align → List ℕ → List ItemMeaning → List Part
 align_parts None first is = []
 align_parts (Some a) first is = aligned_parts (aligned_word a) first is
 
 -- ---- the whole
 
--- the name of the last one, where this one stands in front
+-- the name of the last one, or this one if there is none
 abbrev pub last_name : List ℕ → List ItemMeaning → List ℕ
 last_name name [] = name
 last_name name (i ∷ is) = last_name i.name is
 
--- what the format and the alignment say on this way where these are the items, and nothing where there is
--- none
+-- the parts of the format and of the alignment on this course with these items, and none without items
 abbrev pub parts_over : FormatMeaning → Option Align → Course → List ItemMeaning → List Part
 parts_over f align c [] = []
 parts_over f align c (i ∷ is) =
@@ -175,7 +174,7 @@ parts_over f align c (i ∷ is) =
     ++ (back_parts c (last_name i.name is) f.to_parent
     ++ align_parts align i.name is)))
 
--- all that the format says in this direction, in the order of its text, and the rows of the alignment behind
--- that
+-- all parts of the format in this direction, in the order of its text, and after them the rows of the
+-- alignment
 unfoldable pub parts : FormatMeaning → Option Align → Direction → List Part
 parts f align d = parts_over f align (course_of d f.axis) f.items

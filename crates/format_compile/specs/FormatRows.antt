@@ -62,7 +62,7 @@ AreRowsOf views metrics (l ∷ lines) number (r ∷ rows) = IsRowWithin views me
 
 -- ---- formats
 
--- a format with nothing wrong, and what it is compiled to
+-- a format without a wrong use and within all limits, and its compiled form
 pub record IsCompiledFormat (views : List LiveView) (metrics : MetricList) (f : FormatMeaning)
     (align : Option Align) (d : Direction) (first : ℕ) (c : CompiledLine) : Type 0 where
   pub usable : IsUsableFormat views metrics f.axis align (parts f align d)

@@ -1,4 +1,4 @@
--- The parts of a format without where their names lie in memory.
+-- The parts of a format, whatever the place of their names in memory.
 use Rattle.std.specs.Prelude.{List, map, Option, Some, None}
 use Rattle.vfl_text.specs.View.{pred_meaning}
 use Rattle.format_compile.specs.declared.parts.End as declared_end
@@ -7,7 +7,7 @@ use Rattle.format_compile.specs.declared.parts.Part as declared_part
 use Rattle.format_compile.specs.declared.parts.Part.TheVariants as part
 use Rattle.format_compile.specs.FormatParts.{End, Span, Part, View, Bar, Asks}
 
--- an end of what a row measures, with the name of its view
+-- an end, with the name of its view
 abbrev pub end_view : declared_end.End → End
 end_view e = record { owner = e.owner; view = e.view.now; word = e.word }
 
@@ -16,7 +16,7 @@ abbrev pub minus_view : Option declared_end.End → Option End
 minus_view None = None
 minus_view (Some e) = Some (end_view e)
 
--- what a row measures, with the names of the views
+-- the measure of a row, with the names of the views
 abbrev pub span_view : declared_span.Span → Span
 span_view s = record { plus = end_view s.plus; minus = minus_view s.minus }
 

@@ -1,4 +1,4 @@
--- What some formats measure in each direction.
+-- The measures of some formats in each direction.
 use Rattle.std.specs.Prelude.{◌≡◌, ◌≢◌, List, ℕ, [], ◌∷◌, Some, None, codes}
 use Rattle.vfl_text.specs.declared.parts.Axis.{Axis}
 use Rattle.vfl_text.specs.declared.parts.Axis.TheVariants as axis
@@ -9,7 +9,7 @@ use Rattle.format_compile.specs.declared.lists.TheConstants.{USUAL_BETWEEN}
 use Rattle.format_compile.specs.FormatParts.{View, Asks, course_of, own, parents, exactly, parts}
 use Rattle.format_compile.specs.FormatParts.{inside_near, between, inside_far}
 
--- a view of which no size is asked
+-- a view without a size
 abbrev pub plain : List ℕ → ItemMeaning
 plain name = record { name = name; sizes = [] }
 
@@ -41,7 +41,7 @@ pub record SomeCourses : Type 0 where
   pub far_rtl : inside_far (course_of direction.Rtl axis.H) (codes "b")
       ≡ record { plus = own (codes "b") word.Left; minus = Some (parents (codes "b") word.Left) }
   pub down : parts (pair axis.V) None direction.Rtl ≡ parts (pair axis.V) None direction.Ltr
-  -- the views keep the order of the text, and the same space stands between them
+  -- the views keep the order of the text, with the same space between them
   pub whole : parts (pair axis.H) None direction.Rtl
       ≡ View (codes "a")
       ∷ Asks (record { plus = own (codes "a") word.Left; minus = Some (own (codes "b") word.Right) })

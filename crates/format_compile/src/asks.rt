@@ -1,4 +1,4 @@
-// What the parts of a format stand for. Each name is looked up in the order of the text.
+// The rows that a format's parts ask for. Each name is looked up in the order of the text.
 ghost use Rattle.std.specs.Prelude.{◌≡◌, ◌++◌, ◌∷◌, [], ◌||◌, None, Some, All, map, is_some, true, false};
 ghost use Rattle.std.specs.Prelude.{IfOk, IfErr, OnOk, IsTrue};
 ghost use Rattle.std.specs.List.{list_any};
@@ -31,7 +31,7 @@ use std::slice;
 use vfl_text::Pred;
 use view_tree::{Tree, ViewId};
 
-/// A row that is asked for: what it adds on its left side, its relation and its rank.
+/// A row that a format asks for: its addends on the left side, its relation and its rank.
 #[derive(Clone, Copy)]
 pub(crate) struct Ask<'a> {
     pub plus: Addend<'a>,
@@ -41,15 +41,14 @@ pub(crate) struct Ask<'a> {
     pub rank: u16,
 }
 
-// What an object stands for, subtracted, and the view that it names.
+// The meaning of an object, subtracted, and the view that it names.
 #[derive(Clone, Copy)]
 struct Subtracted<'a> {
     addend: Addend<'a>,
     view: Option<ViewId>,
 }
 
-// The object, subtracted: the same attribute of another view where it names one, otherwise a number or a
-// metric.
+// The object, subtracted: the same attribute of another view if it names one, otherwise a number or a metric.
 fn object_of<'a>(
     tree: &Tree,
     metrics: &Metrics,
@@ -92,7 +91,7 @@ fn object_of<'a>(
     }
 }
 
-// What is subtracted of the second end, where there is one.
+// The second end, subtracted, if there is one.
 fn minus_of<'a>(tree: &Tree, span: &Span<'_>) -> Option<Addend<'a>>
     ensures addend { addends_view (option_to_list result) ≡ addends tree.now.views
         (map meaning.minus (lines.minus_terms tree.now.views (span_view span.now).minus)) }
@@ -102,7 +101,7 @@ fn minus_of<'a>(tree: &Tree, span: &Span<'_>) -> Option<Addend<'a>>
     Some(end_addend(tree, minus_one(), end))
 }
 
-// What a part stands for: the row that it asks for, the view that its text names, and what is wrong with it.
+// The meaning of a part: the row that it asks for, the view in its text, and its wrong uses.
 #[derive(Clone, Copy)]
 struct Found<'a> {
     ask: Option<Ask<'a>>,
@@ -112,7 +111,7 @@ struct Found<'a> {
     lacks_rank: bool,
 }
 
-// Nothing but a view.
+// No row, and perhaps a view.
 fn only<'a>(view: Option<ViewId>, lacks_parent: bool) -> Found<'a>
     ensures { result ≡ record {
       ask = None;
@@ -172,7 +171,7 @@ fn ask_of<'a>(
     ensures stop { IfErr result (λ name. refusals.unknown_pred tree.now.views metrics.now
         (pred_meaning pred.now) ≡ Some name.now) }
 {
-    // not by `?`, which the borrow checker does not cover for what this returns
+    // not by `?`, which the borrow checker does not cover for this function's result
     let object = match object_of(tree, metrics, span.plus.word, pred.object) {
         Ok(object) => object,
         Err(name) => return Err(name),
@@ -197,7 +196,7 @@ fn ask_of<'a>(
     })
 }
 
-// What a part stands for, or the first name in it that must be a view's or a metric's, and isn't.
+// The meaning of a part, or the first name in it that must be a view's or a metric's and isn't.
 fn look_up<'a>(tree: &Tree, metrics: &Metrics, part: &Part<'a>) -> Result<Found<'a>, &'a str>
     ensures known { OnOk result (refusals.unknown_part tree.now.views metrics.now (part_view part.now)
         ≡ None) }
@@ -224,8 +223,8 @@ fn look_up<'a>(tree: &Tree, metrics: &Metrics, part: &Part<'a>) -> Result<Found<
     }
 }
 
-/// What the parts of a format stand for: the rows that they ask for, the views that the text names, and what
-/// is wrong with them. Where a priority stands for no rank, its row isn't among the rows.
+/// The meaning of the parts of a format: the rows that they ask for, the views in the text, and the wrong
+/// uses. If a priority has no rank, its row isn't among the rows.
 #[derive(Drop)]
 pub(crate) struct Asked<'a> {
     pub rows: Vec<Ask<'a>>,
@@ -252,7 +251,7 @@ fn nothing<'a>(alloc: Global, room: usize) -> Result<Asked<'a>, OutOfMemory>
     })
 }
 
-// Adds what one more part stands for.
+// Adds the meaning of one more part.
 fn push<'a>(out: &mut Asked<'a>, found: &Found<'a>) -> Result<(), OutOfMemory>
     ensures rows { OnOk result (out.new.rows.items ≡ out.old.rows.items ++ option_to_list found.now.ask) }
     ensures views { OnOk result (numbers out.new.views.items
@@ -274,7 +273,7 @@ fn push<'a>(out: &mut Asked<'a>, found: &Found<'a>) -> Result<(), OutOfMemory>
     Ok(())
 }
 
-/// What the parts stand for, unless a name in them is unknown.
+/// The meaning of the parts, unless a name in them is unknown.
 pub(crate) fn resolve_parts<'a>(
     alloc: Global,
     tree: &Tree,

@@ -1,4 +1,4 @@
-// What the names of a format lead to, and which way its alignment runs.
+// The checks of a format's alignment and of its views' parents.
 ghost use Rattle.std.specs.Prelude.{◌≡◌};
 ghost use Rattle.std.specs.Option.{option_map};
 ghost use Rattle.format_compile.specs.FormatRefusals as refusals;

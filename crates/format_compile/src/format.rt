@@ -1,4 +1,4 @@
-// Visual formats: what each asks of its views, and the rows that this makes.
+// Visual formats: the rows that each asks of its views.
 ghost use Rattle.std.specs.Prelude.{◌≡◌, ◌<◌, List, IfOk, IfErr};
 ghost use Rattle.vfl_text.specs.View.{meaning};
 ghost use Rattle.view_tree.specs.Views.{LiveView};
@@ -18,7 +18,7 @@ use std::alloc::Global;
 use vfl_text::Format;
 use view_tree::Tree;
 
-/// How many rows the format has.
+/// The number of the format's rows.
 pub fn format_row_count(
     alloc: Global,
     format: &Format<'_>,
@@ -32,16 +32,16 @@ pub fn format_row_count(
     Ok(row_count(&parts))
 }
 
-/// The rows of a visual format and the views that its text names. The views of a horizontal one follow each
-/// other in the direction. The rows are numbered from the first number, in the order of the text, those of
-/// the alignment last.
+/// The rows of a visual format and the views in its text. The views of a horizontal one follow each other in
+/// the direction. The rows are numbered from the first number, in the order of the text. Those of the
+/// alignment come last.
 ///
-/// It stops at the first unknown name of the text, and else at the first wrong use in the order `Align`,
-/// `Parent`, `Object`, `Priority`, and else at the first limit that is passed: `Rows`, where a row's number
-/// would be [`NUMBER_LIMIT`](problem_core::NUMBER_LIMIT) or more, then `Attributes`, `Coefficient` and
-/// `Constant`, each over all rows.
+/// It stops at the first unknown name of the text, or else at the first wrong use in the order `Align`,
+/// `Parent`, `Object`, `Priority`, or else at the first limit that is passed: `Rows` if a row's number would
+/// be [`NUMBER_LIMIT`](problem_core::NUMBER_LIMIT) or more, then `Attributes`, `Coefficient` and `Constant`,
+/// each over all rows.
 // It has seven parameters, since a line keeps the format and its alignment apart, metrics change without the
-// views, and the direction is that of the scene.
+// views, and the direction is the scene's.
 pub fn compile_format(
     alloc: Global,
     tree: &Tree,

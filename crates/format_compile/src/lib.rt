@@ -1,9 +1,9 @@
-//! From the reading of a visual format to its rows: what it asks of its views, and the rows that this makes.
+//! From the reading of a visual format to the rows that it asks of its views.
 //!
-//! [`compile_format`] makes the rows, numbered one after the other in the order of the text, those of an
-//! alignment last; [`format_row_count`] says how many they are. Each is a row of a sum of terms, as
-//! `constraint_compile` makes it, so it follows the metrics as the row of a line does. The views of a
-//! horizontal format stand one behind the other from the left or from the right, as the direction says.
+//! [`compile_format`] makes the rows, numbered in the order of the text, those of an alignment last.
+//! [`format_row_count`] gives their number. Each is the row of a sum of terms, made by `constraint_compile`,
+//! so it follows the metrics as the row of a line does. The views of a horizontal format follow each other
+//! from the left or from the right, by the direction.
 //!
 //! ```
 //! // of the format `H:|-[a(>=gap)]`, from row 7 on
@@ -12,15 +12,15 @@
 //! compiled.rows_now(alloc, &metrics)?        // row 7: a is 20 right of its parent; row 8: a.width >= gap
 //! ```
 //!
-//! A format that can't be compiled says the first cause, in an order that the contracts fix (`CompileStop`):
-//! an unknown name, then a wrong use, then a limit that a row would pass, limit by limit over all rows. The
-//! laws say that it has one cause at most, and none where it is compiled.
+//! If a format can't be compiled, the error is the first cause, in an order that the contracts fix
+//! (`CompileStop`): an unknown name, then a wrong use, then a limit that a row would pass, limit by limit
+//! over all rows. The laws say that it has at most one cause, and none if it is compiled.
 //!
-//! Invariant (`IsKeptAsk`): each row that is asked for has at most two ends and what stands between them,
-//! and what these add is halves of attributes.
+//! Invariant (`IsKeptAsk`): each row that a format asks for has at most two ends and the space between them,
+//! and their addends are halves of attributes.
 //!
-//! In reading order: `parts`, `spans`, `lists` (what the text says), `checks`, `lines`, `asks` (what is
-//! asked for), `refusals`, `rows`, `laws`, `format` (the two calls).
+//! In reading order: `parts`, `spans`, `lists` (the parts of the text), `checks`, `lines`, `asks` (the rows
+//! that it asks for), `refusals`, `rows`, `laws`, `format` (the two calls).
 #![tactic(auto)]
 
 mod asks;

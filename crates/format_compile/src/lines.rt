@@ -1,4 +1,4 @@
-// What the ends of the rows of a format add.
+// The addends of the ends of a format's rows.
 ghost use Rattle.std.specs.Prelude.{◌≡◌, ◌<◌, [], false, IfSome, IfNone, Some};
 ghost use Rattle.std.specs.Option.{option_map};
 ghost use Rattle.span_text.specs.declared.limits.TheConstants.{UNIT};
@@ -27,28 +27,28 @@ fn number(thousandths: i32) -> Frac
     signed_number(thousandths < 0, thousandths.unsigned_abs())
 }
 
-/// What a number of thousandths subtracts.
+/// A number of thousandths, subtracted.
 pub(crate) fn minus_number(thousandths: i32) -> Frac
     ensures { result ≡ fractions.negated (lines.number thousandths) }
 {
     negated(number(thousandths))
 }
 
-/// An attribute is added once.
+/// The factor of an attribute that is added once.
 pub(crate) fn one() -> Frac
     ensures { result ≡ grammar.decimal false UNIT }
 {
     signed_number(false, UNIT)
 }
 
-/// An attribute is subtracted once.
+/// The factor of an attribute that is subtracted once.
 pub(crate) fn minus_one() -> Frac
     ensures { result ≡ fractions.negated (grammar.decimal false UNIT) }
 {
     negated(one())
 }
 
-// The parent of the view of this name, which is found by its own name too.
+// The parent of the view of this name. The parent is found by its own name too.
 fn parent_at(tree: &Tree, name: &str) -> Option<ViewId>
     ensures some { IfSome result (λ id. option_map (λ v. v.id) (view_named tree.now.views
         (lines.name_of tree.now.views (refusals.parent_of tree.now.views name.now))) ≡ Some id.0) }

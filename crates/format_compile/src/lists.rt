@@ -1,4 +1,4 @@
-// The parts of a format, in the order of its text. After an error nothing is said of what was appended.
+// The parts of a format, in the order of its text. After an error the appended parts are unspecified.
 ghost use Rattle.std.specs.Prelude.{◌≡◌, ◌++◌, ◌∷◌, [], ◌<◌, IfOk, OnOk, length};
 ghost use Rattle.vfl_text.specs.View.{pred_meaning, pred_meanings, spacing_meaning, spacing_meanings};
 ghost use Rattle.vfl_text.specs.View.{end_meaning, item_meaning, item_meanings, meaning};
@@ -15,10 +15,10 @@ use span_text::Object;
 use std::alloc::Global;
 use vfl_text::{Format, Item, Pred, Spacing};
 
-/// The space between two views where none is given, in thousandths.
+/// The space between two views if none is given, in thousandths.
 pub const USUAL_BETWEEN: u16 = 8_000;
 
-/// The space between a view and its parent where none is given, in thousandths.
+/// The space between a view and its parent if none is given, in thousandths.
 pub const USUAL_INSIDE: u16 = 20_000;
 
 // So many thousandths, required.
@@ -34,7 +34,7 @@ fn exactly<'a>(thousandths: u16) -> Pred<'a>
     }
 }
 
-// Appends a row that measures so many thousandths, required.
+// Appends a row that measures exactly so many thousandths, required.
 fn push_exactly<'a>(
     out: &mut Vec<Part<'a>>,
     span: Span<'a>,
@@ -63,7 +63,7 @@ fn push_preds<'a>(
     Ok(())
 }
 
-// Appends the rows of a connection; the space that is usual there is in thousandths.
+// Appends the rows of a connection. Its usual space is in thousandths.
 fn push_spacing<'a>(
     out: &mut Vec<Part<'a>>,
     span: Span<'a>,
@@ -94,7 +94,7 @@ fn push_item<'a>(
     push_preds(out, size(course, item.name), item.sizes())
 }
 
-// The views behind the one of this name. Answers the name of the last one.
+// Appends the views after the one of this name. Answers the name of the last one.
 fn push_chain<'a>(
     out: &mut Vec<Part<'a>>,
     course: Course,
@@ -140,7 +140,7 @@ fn push_front<'a>(
     Ok(())
 }
 
-// Appends the parent's bar behind the view, and the connection to it, if there is one.
+// Appends the parent's bar after the view, and the connection to it, if there is one.
 fn push_back<'a>(
     out: &mut Vec<Part<'a>>,
     course: Course,
@@ -191,7 +191,7 @@ fn push_align<'a>(
     }
 }
 
-/// What the format says in this direction, in the order of its text, with the alignment behind it.
+/// The parts of the format in this direction, in the order of its text, and then the alignment.
 #[tactic(auto, unfolding(crate::specs::FormatParts::parts))]
 pub(crate) fn parts_of<'a>(
     alloc: Global,

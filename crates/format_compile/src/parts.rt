@@ -1,8 +1,8 @@
-// A format as one list of what it says.
+// A format as one list of parts.
 use script_text::AttrWord;
 use vfl_text::Pred;
 
-/// Whose attribute an end is.
+/// The owner of an end's attribute.
 #[derive(Clone, Copy)]
 pub(crate) enum Owner {
     Itself,
@@ -17,21 +17,21 @@ pub(crate) struct End<'a> {
     pub word: AttrWord,
 }
 
-/// What a row measures: the first end less the second, or the first alone, which is then a size.
+/// The measure of a row: the first end less the second, or the first alone, which is then a size.
 #[derive(Clone, Copy)]
 pub(crate) struct Span<'a> {
     pub plus: End<'a>,
     pub minus: Option<End<'a>>,
 }
 
-/// What a format says at one place of its text.
+/// One part of a format's text.
 #[derive(Clone, Copy)]
 pub(crate) enum Part<'a> {
     /// The name of a view.
     View { name: &'a str },
     /// The parent's bar beside the view of this name.
     Bar { view: &'a str },
-    /// A row that is asked for.
+    /// A row that the format asks for.
     Asks { span: Span<'a>, pred: Pred<'a> },
 }
 

@@ -21,7 +21,7 @@ use std::alloc::Global;
 use vfl_text::Axis;
 use view_tree::Tree;
 
-// One for a row that is asked for.
+// One for a row that the format asks for.
 fn rows_in(part: &Part<'_>) -> usize
     ensures count { (views : List LiveView) (parts : List FormatPart)
         → stops.row_count views (part_view part.now ∷ parts) ≡ result + stops.row_count views parts }
@@ -34,7 +34,7 @@ fn rows_in(part: &Part<'_>) -> usize
     }
 }
 
-/// How many rows are asked for.
+/// The number of rows that the parts ask for.
 pub(crate) fn row_count(parts: &[Part<'_>]) -> usize
     ensures { (views : List LiveView) → result ≡ stops.row_count views (parts_view parts.now) }
 {
@@ -53,7 +53,7 @@ fn is_past_numbers(first_row: u32, count: usize) -> bool
     count > 0 && (first_row >= NUMBER_LIMIT || count > (NUMBER_LIMIT - first_row) as usize)
 }
 
-// No use may be wrong.
+// Fails with the first wrong use, if there is one.
 fn used(axis: Axis, align: Option<Align>, asked: &Asked<'_>) -> Result<(), KindWord>
     ensures ok { OnOk result (IsUsableAsked axis align asked.now) }
     ensures stop { IfErr result (IsWrongAsked axis align asked.now) }
@@ -73,9 +73,9 @@ fn used(axis: Axis, align: Option<Align>, asked: &Asked<'_>) -> Result<(), KindW
     Ok(())
 }
 
-/// What the parts stand for, where nothing is wrong with a format whose rows are numbered from the first
-/// number.
-// It has seven parameters: those of `compile_format`, where of the format its axis and its parts are left.
+/// The meaning of the parts, if a format whose rows are numbered from the first number has no unknown name,
+/// no wrong use and not too many rows.
+// It has seven parameters: those of `compile_format`, with the axis and the parts in place of the format.
 pub(crate) fn checked<'a>(
     alloc: Global,
     tree: &Tree,

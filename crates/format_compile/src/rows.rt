@@ -33,10 +33,10 @@ pub(crate) struct Found {
 // Every row of a format has this weight.
 const WEIGHT: u16 = 1;
 
-/// A row that is asked for has at most two ends and what stands between them.
+/// A row has at most two ends and the space between them.
 pub(crate) const TERM_COUNT: usize = 3;
 
-// What the row adds on its left side.
+// The row's addends on its left side.
 fn addends_of<'a>(alloc: Global, ask: &Ask<'a>) -> Result<Vec<Addend<'a>>, OutOfMemory>
     requires { IsKeptAsk ask.now }
     ensures added { IfOk result (λ out. out.items ≡ added ask.now) }
@@ -52,7 +52,7 @@ fn addends_of<'a>(alloc: Global, ask: &Ask<'a>) -> Result<Vec<Addend<'a>>, OutOf
     Ok(out)
 }
 
-// The row that is asked for.
+// The row that the format asks for.
 fn row_of(alloc: Global, metrics: &Metrics, ask: &Ask<'_>, id: u32) -> Result<RowForm, CompileStop>
     requires kept { IsKeptAsk ask.now }
     requires number { (0 < id) × (id < NUMBER_LIMIT) }
@@ -72,14 +72,13 @@ fn row_of(alloc: Global, metrics: &Metrics, ask: &Ask<'_>, id: u32) -> Result<Ro
     row_of_addends(alloc, metrics, &added, head)
 }
 
-// Appends a row.
 fn push_row(rows: &mut Vec<RowForm>, row: RowForm) -> Result<(), OutOfMemory>
     ensures { OnOk result (rows.new.items ≡ rows.old.items ++ row ∷ []) }
 {
     Ok(rows.push(row)?)
 }
 
-// Keeps in mind that a row passes a limit, unless it is the first of all.
+// Notes that a row passes a limit, unless it is the first limit of all.
 fn note(limit: &mut Option<LimitWord>, stop: CompileStop) -> Result<(), CompileStop>
     ensures noted { OnOk result ((limit.new ≡ noted limit.old stop) × IsLater stop) }
     ensures stop { IfErr result (λ e. (e ≡ stop) × (IsLater stop → ⊥)) }
@@ -97,7 +96,6 @@ fn note(limit: &mut Option<LimitWord>, stop: CompileStop) -> Result<(), CompileS
     }
 }
 
-// Adds the row that is asked for.
 fn add_row(
     alloc: Global,
     metrics: &Metrics,
@@ -119,8 +117,8 @@ fn add_row(
     }
 }
 
-/// The rows that are asked for, numbered from the first number, whatever the views and the lines for which
-/// they stand.
+/// The rows that the format asks for, numbered from the first number, from whatever views and lines they
+/// come.
 pub(crate) fn rows_of(
     alloc: Global,
     metrics: &Metrics,

@@ -1,4 +1,4 @@
-// What the rows of a format measure.
+// The measures of a format's rows.
 ghost use Rattle.std.specs.Prelude.{◌≡◌};
 ghost use Rattle.format_compile.specs.FormatParts as parts;
 ghost use Rattle.format_compile.specs.FormatViews.{end_view, span_view};
@@ -7,7 +7,7 @@ use crate::parts::{Course, End, Owner, Span};
 use script_text::{Align, AttrWord, Direction};
 use vfl_text::Axis;
 
-/// The way of a format along this axis.
+/// The course of a format along this axis.
 pub(crate) fn course_of(direction: Direction, axis: Axis) -> Course
     ensures { result ≡ parts.course_of direction axis }
 {
@@ -89,7 +89,7 @@ fn parents(view: &str, word: AttrWord) -> End<'_>
     }
 }
 
-// How far it is from one end on to the other: the greater less the lesser.
+// The distance from one end on to the other: the greater less the lesser.
 fn onwards<'a>(course: Course, from: End<'a>, to: End<'a>) -> Span<'a>
     ensures { span_view result ≡ parts.onwards course (end_view from.entry) (end_view to.entry) }
 {
@@ -138,7 +138,7 @@ pub(crate) fn size(course: Course, view: &str) -> Span<'_>
     }
 }
 
-/// How far a view is off the one before it.
+/// The offset of a view from the one before it.
 pub(crate) fn off<'a>(word: AttrWord, before: &'a str, view: &'a str) -> Span<'a>
     ensures { span_view result ≡ parts.off word before.now view.now }
 {

@@ -1,4 +1,4 @@
--- What is found on the way to a path's first corner, by what is kept of the lines.
+-- The search for the exchange on the way to a path's first corner, by the kept lines.
 use Rattle.std.specs.Prelude.{List, ℕ, Option}
 use Rattle.problem_core.specs.declared.parts.Side.{Side}
 use Rattle.problem_core.specs.declared.parts.Mark.{Mark}

@@ -1,4 +1,4 @@
--- Small paths for the words of the first four clauses: x with its stay at 0, and one required row `x >= k`.
+-- Small paths for the definitions of the first four clauses. The stay of x is at 0, and `x >= k` is required.
 use Rattle.std.specs.Prelude.{ℕ, false, List, [], ◌∷◌, Option, None, Some}
 use Rattle.frac_core.specs.declared.frac.TheConstants.{PART_BOUND}
 use Rattle.problem_core.specs.declared.parts.Side.TheVariants.{Under, Over}
@@ -24,7 +24,7 @@ to_bound = record { enter = over_stay; leave = under_row }
 abbrev pub from_bound : Swap
 from_bound = record { enter = under_row; leave = over_stay }
 
--- these exchanges from where x stands at its stay
+-- these exchanges from the corner where x is at its stay
 abbrev pub going : List Swap → Path
 going swaps = record { dual = false; corner = under_row ∷ []; swaps = swaps }
 
@@ -32,8 +32,7 @@ going swaps = record { dual = false; corner = under_row ∷ []; swaps = swaps }
 abbrev pub to_bound_step : Step
 to_bound_step = record { enter = record { at = 1; side = Over }; leave = record { at = 0; side = Under } }
 
--- the route has made no exchange, where these marks of the path's first corner are inside and the rest is to
--- come
+-- the route has made no exchange; these marks of the path's first corner are inside, and the rest is to come
 abbrev pub IsAtBegin : (before rest : List Mark) → Type 0
 IsAtBegin before rest = IsRouteAt (single 5) (going []) (λ at. Unit {0}) before rest 0 None
     (Some Over ∷ None ∷ [])
@@ -43,7 +42,7 @@ pub record SomeFirstFit : Type 0 where
   pub large : HasUnfitFirst (single PART_BOUND)
   pub small : HasUnfitFirst (single 5) → ⊥
 
--- where the route is, and where it isn't
+-- marks that the route has brought in where it begins, marks that it has not, and swaps by places
 pub record SomeWays : Type 0 where
   pub begun : IsAtBegin [] (under_row ∷ [])
   pub not_there : IsAtBegin (under_row ∷ []) [] → ⊥
@@ -69,18 +68,18 @@ pub record SomeVerdicts : Type 0 where
   pub back_not : HoldToApart (single 5) (going (to_bound ∷ from_bound ∷ [])) → ⊥
   pub lawful_not : Breaks EXCHANGES_CLAUSE (going (to_bound ∷ [])) → ⊥
 
--- where the row's over mark is inside, its value is below 0
+-- if the row's over mark is inside, its value is below 0
 abbrev pub below_bound : Path
 below_bound = record { dual = false; corner = over_row ∷ []; swaps = [] }
 
--- a path without a negative value, and one with one
+-- a path without a negative value, and one with a negative value
 pub record SomeValues : Type 0 where
   pub sound : HoldToSound (single 5) (going (to_bound ∷ [])) None
   pub sound_not : IsPathVerdict (single 5) (going (to_bound ∷ [])) None (No SOUND_CLAUSE) → ⊥
   pub negative : IsPathVerdict (single 5) below_bound None (No SOUND_CLAUSE)
   pub negative_not : HoldToSound (single 5) below_bound None → ⊥
 
--- the words of the first clauses hold in some small cases, and fail in others
+-- the definitions of the first clauses hold in some small cases, and fail in others
 pub record SomePathsHold : Type 0 where
   pub first : SomeFirstFit
   pub ways : SomeWays

@@ -21,7 +21,7 @@ use Rattle.path_claims.specs.declared.stations.Station.{Station}
 use Rattle.path_levels.specs.Outlines.{IsOutline, IsSizedOutline}
 use Rattle.path_claims.specs.Stations.{IsStation, IsStuckAt, IsUsableStation}
 
--- a path of so many different marks as there are rows, and what is read off it
+-- a path with as many different marks as there are rows, and its parts
 pub record IsPathCase (case : PathCase) : Type 0 where
   pub outline_is : IsOutline case.p.now case.outline.now
   pub outline_sized : IsSizedOutline case.outline.now
@@ -33,17 +33,17 @@ pub record IsPathCase (case : PathCase) : Type 0 where
 
 -- ---- one mark is brought in
 
--- the exchange that brings the mark in, and what is kept of the next corner
+-- the exchange that brings the mark in, and the station after it
 abbrev pub IsBroughtTo : PathCase → List Mark → Spot → (station next : Station) → Type 0
 IsBroughtTo case at enter station next = IsBroughtBy case.p.now case.path.now.corner at enter
     (λ ms. IsStation case.p.now ms case.outline.now next) station.count next.count next.step
 
--- so it is at each corner of which this is the station
+-- it does so at each corner with this station
 abbrev pub Brings : PathCase → Spot → Station → Station → Type 0
 Brings case enter station next = (at : List Mark) → IsStation case.p.now at case.outline.now station
     → IsBroughtTo case at enter station next
 
--- none gives way to it, or something that counts does not fit
+-- no mark gives way to it, or something that counts does not fit
 abbrev pub BringsNone : PathCase → Spot → Station → WayStop → Type 0
 BringsNone case enter station Fails = (at : List Mark) → IsStation case.p.now at case.outline.now station
     → IsBroughtByNone case.p.now case.path.now.corner at enter
@@ -54,7 +54,7 @@ BringsNone case enter station OutOfMemory = Unit {0}
 
 -- ---- all marks, one after the other
 
--- the journey has come here, and this is kept of the corner
+-- the journey has come to this corner, and this station is kept of it
 abbrev pub IsJourneyAt : Problem → Path → Outline → (before rest : List Mark) → Journey → Type 0
 IsJourneyAt p path outline before rest journey =
     IsRouteAt p path (λ at. IsStation p at outline journey.station) before rest journey.station.count
@@ -72,13 +72,13 @@ pub record IsMarkNext (p : Problem) (path : Path) (outline : Outline) (before : 
   pub wanted : IsIn (place m) path.corner
   pub journey_is : IsJourneyAt p path outline before (m ∷ rest) journey
 
--- this is the journey once the mark is inside too, wherever the mark is the next one
+-- this is the journey once the mark is inside too, whenever the mark is the next one
 abbrev pub HasOneMore : PathCase → Journey → Spot → Journey → Type 0
 HasOneMore case journey enter next = (before : List Mark) (m : Mark) (rest : List Mark)
     → IsMarkNext case.p.now case.path.now case.outline.now before m rest journey enter
     → IsJourneyAt case.p.now case.path.now case.outline.now (before ++ m ∷ []) rest next
 
--- the route stops so at the mark, wherever the mark is the next one
+-- the route stops so at the mark, whenever the mark is the next one
 abbrev pub StopsAt : PathCase → Journey → Spot → WayStop → Type 0
 StopsAt case journey enter stop = (before : List Mark) (m : Mark) (rest : List Mark)
     → IsMarkNext case.p.now case.path.now case.outline.now before m rest journey enter
@@ -109,7 +109,7 @@ abbrev pub IsCalledThere : PathCase → Step → List Mark → Type 0
 IsCalledThere case step at = (IsEndOf case.path.now.dual case.p.now at → ⊥)
     × MaySwap case.path.now.dual case.p.now at (swap_of case.p.now step)
 
--- at each corner before the last what has to hold there
+-- each corner before the last is sound
 abbrev pub AreSoundAhead : Bool → Problem → List Mark → List Swap → Type 0
 AreSoundAhead dual p at [] = Unit {0}
 AreSoundAhead dual p at (s ∷ swaps) = IsSound dual p at × AreSoundAhead dual p (exchanged s at) swaps

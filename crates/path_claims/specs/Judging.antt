@@ -1,4 +1,4 @@
--- What is found on the route of a path, and the verdict by it.
+-- The findings on the route of a path, and the verdict by them.
 use Rattle.std.specs.Prelude.{◌↔◌, ◌≤◌, ℕ, Bool, true, false, IsTrue, List, [], ◌∷◌, length, Option}
 use Rattle.std.specs.Prelude.{None, Some}
 use Rattle.problem_core.specs.declared.parts.Mark.{Mark}
@@ -18,14 +18,15 @@ use Rattle.path_fits.specs.declared.last.Fit.TheVariants.{Fits, Unfit, NoRoom}
 use Rattle.path_claims.specs.Journeys.{AreSoundAhead, IsOnRoute}
 use Rattle.path_claims.specs.Stations.{IsUsableStation}
 
--- the path's first corner is one, and is come to
+-- the path's first corner is a corner, and the route has come to it
 pub record IsAtFirst (case : PathCase) (station : Station) : Type 0 where
   pub corner : IsCorner case.p.now case.path.now.corner
   pub usable : IsUsableStation case.outline.now station
   pub count : station.count ≤ length case.path.now.corner
   pub arrived : IsOnRoute case.p.now case.path.now case.outline.now [] station
 
--- of the path's clauses the first three hold, the last corner is come to, and all is known of those before it
+-- the first three clauses of the path hold, the route has come to the last corner, and all is known of the
+-- corners before it
 pub record IsWalked (case : PathCase) (walked : Walked) : Type 0 where
   pub holds : HoldToApart case.p.now case.path.now
   pub usable : IsUsableStation case.outline.now walked.station
@@ -36,23 +37,23 @@ pub record IsWalked (case : PathCase) (walked : Walked) : Type 0 where
 
 -- ---- the last corner
 
--- the marks of this row, and of rows after it, are not judged: on a primal path without a swap alone
+-- the first row whose marks are not judged, only on a primal path without a swap
 abbrev pub unjudged_from : Bool → List Swap → Option ℕ → Option ℕ
 unjudged_from true swaps row = None
 unjudged_from false [] row = row
 unjudged_from false (s ∷ swaps) row = None
 
--- what has to hold at the last corner, but for the rows that are not judged
+-- the last corner is sound, except for the rows that are not judged
 abbrev pub IsSoundFrom : Bool → Problem → List Mark → Option ℕ → Type 0
 IsSoundFrom dual p at None = IsSound dual p at
 IsSoundFrom dual p at (Some id) = AreNonnegativeBefore p at id
 
--- the same where the path is shown with this quantity
+-- the same if the path is shown with this quantity
 abbrev pub IsSoundLast : PathCase → Quantity → List Mark → Type 0
 IsSoundLast case named at = IsSoundFrom case.path.now.dual case.p.now at
     (unjudged_from case.path.now.dual case.path.now.swaps (row_of_terms (Some named)))
 
--- how the quantity stands there, or where no quantity is shown
+-- the answer to clause 14: it fails, it holds, or there is no room
 abbrev pub IsFitFor : Problem → Path → Option Quantity → ℕ → Fit → Type 0
 IsFitFor p path unfit count Fits = EndsInUnfit p path unfit → ⊥
 IsFitFor p path unfit count Unfit = EndsInUnfit p path unfit

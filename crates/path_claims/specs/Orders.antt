@@ -14,14 +14,14 @@ use Rattle.path_claims.specs.declared.orders.SumAt.{SumAt}
 use Rattle.path_fits.specs.declared.last.Fit.{Fit}
 use Rattle.path_fits.specs.declared.last.Fit.TheVariants.{Fits, Unfit, NoRoom}
 
--- the sum stands there: a row's by the row's number, a level's by the level's number
+-- the sum's place in the order: a row's sum has the row's number, a level's sum the level's number
 abbrev pub IsSumAt : Problem → Quantity → SumAt → Type 0
 IsSumAt p (Plain what) place = ⊥
 IsSumAt p (Terms mark j) place = (place.is_rows ≡ false) × (mark ≡ over_mark place.at) × (j ≡ place.first)
 IsSumAt p (Rows level j) place = (place.is_rows ≡ true) × IsLevelAt p level place.at × (j ≡ place.first)
 IsSumAt p (Shifts what j) place = ⊥
 
--- it is of an earlier row or level, or of the same and sums fewer
+-- it is of an earlier row or level, or of the same one and sums fewer
 abbrev pub IsLower : SumAt → SumAt → Type 0
 IsLower a b = (a.at < b.at) ⊎ ((a.at ≡ b.at) × (a.first < b.first))
 
@@ -29,14 +29,14 @@ IsLower a b = (a.at < b.at) ⊎ ((a.at ≡ b.at) × (a.first < b.first))
 abbrev pub Precedes : SumAt → SumAt → Type 0
 Precedes a b = ((a.is_rows ≡ false) × (b.is_rows ≡ true)) ⊎ ((a.is_rows ≡ b.is_rows) × IsLower a b)
 
--- the named quantity comes before the first sum that does not fit, is that one, or comes after it, or is no
+-- the named quantity comes before the first sum that does not fit, is that sum, or comes after it, or is no
 -- sum
 abbrev pub IsFitBefore : Problem → (named unfit : Quantity) → Fit → Type 0
 IsFitBefore p named unfit Fits = ComesBefore p named unfit
 IsFitBefore p named unfit Unfit = named ≡ unfit
 IsFitBefore p named unfit NoRoom = IsSumOf p named → ComesBefore p unfit named
 
--- so many rows are judged by their values: where a row is given those of lesser numbers, else all
+-- so many rows are judged by their values: those before the given row, or all if none is given
 abbrev pub IsJudgedTo : Problem → Option ℕ → ℕ → Type 0
 IsJudgedTo p None judged = judged ≡ length p.rows
 IsJudgedTo p (Some id) judged = (judged ≤ length p.rows) × AreJudged p id judged (length p.rows)

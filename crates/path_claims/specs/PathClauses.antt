@@ -18,7 +18,7 @@ use Rattle.path_lines.specs.Room.{HasNoRoom}
 use Rattle.path_claims.specs.declared.verdict.TheConstants.{APART_CLAUSE, CALLED_CLAUSE, CORNER_CLAUSE}
 use Rattle.path_claims.specs.declared.verdict.TheConstants.{EXCHANGES_CLAUSE, SOUND_CLAUSE, UNFIT_CLAUSE}
 
--- at each corner what has to hold there: on a primal path no value is negative, on a dual one no column
+-- each corner is sound: on a primal path no value is negative, on a dual one no column
 abbrev pub AreSound : Bool → Problem → List Mark → List Swap → Type 0
 AreSound dual p at [] = IsSound dual p at
 AreSound dual p at (s ∷ swaps) = IsSound dual p at × AreSound dual p (exchanged s at) swaps
@@ -37,7 +37,7 @@ pub record AreClauses (dual : Bool) (p : Problem) (at : List Mark) (swaps : List
   pub sound : AreSound dual p at swaps
   pub called_for : AreCalledFor dual p at swaps
 
--- a path is lawful exactly where its clauses hold
+-- a path is lawful exactly if its clauses hold
 abbrev pub PathIsItsClauses : Type 0
 PathIsItsClauses = (dual : Bool) (p : Problem) (at : List Mark) (swaps : List Swap)
     → AreClauses dual p at swaps ↔ IsPath dual p at swaps
@@ -55,15 +55,15 @@ row_of_terms (Some (Terms mark j)) = held_number mark.row
 row_of_terms (Some (Rows level j)) = None
 row_of_terms (Some (Shifts what j)) = None
 
--- on a primal path without a swap that is shown with a sum of first terms, the marks of that row and of rows
--- after it are not judged
+-- if a primal path without a swap is shown with a sum of first terms, the marks of that row and of rows after
+-- it are not judged
 abbrev pub AreSoundBefore : Bool → Problem → List Mark → List Swap → Option ℕ → Type 0
 AreSoundBefore false p at [] (Some id) = AreNonnegativeBefore p at id
 AreSoundBefore false p at [] None = AreSound false p at []
 AreSoundBefore false p at (s ∷ swaps) row = AreSound false p at (s ∷ swaps)
 AreSoundBefore true p at swaps row = AreSound true p at swaps
 
--- a lawful path, but for the values that are not judged
+-- a lawful path, except for the values that are not judged
 abbrev pub AreShownSwaps : Bool → Problem → List Mark → List Swap → Option ℕ → Type 0
 AreShownSwaps false p at [] (Some id) = AreNonnegativeBefore p at id
 AreShownSwaps false p at [] None = ArePathSwaps false p at []
@@ -85,7 +85,7 @@ pub record HoldToExchanges (p : Problem) (path : Path) : Type 0 where
 abbrev pub AreApart : Path → Type 0
 AreApart path = ArePairwiseDifferent (corners path.corner path.swaps)
 
--- clause 12: at each corner what has to hold there, but for the values that are not judged with this quantity
+-- clause 12: each corner is sound, except for the values that are not judged with this quantity
 abbrev pub IsSoundPath : Problem → Path → Option Quantity → Type 0
 IsSoundPath p path unfit = AreSoundBefore path.dual p path.corner path.swaps (row_of_terms unfit)
 
@@ -93,7 +93,7 @@ IsSoundPath p path unfit = AreSoundBefore path.dual p path.corner path.swaps (ro
 abbrev pub IsCalledFor : Problem → Path → Type 0
 IsCalledFor p path = AreCalledFor path.dual p path.corner path.swaps
 
--- clause 14: the quantity does not fit at the last corner; it holds where the path is shown with none
+-- clause 14: the quantity does not fit at the last corner; it holds if the path is shown with none
 abbrev pub EndsInUnfit : Problem → Path → Option Quantity → Type 0
 EndsInUnfit p path None = Unit {0}
 EndsInUnfit p path (Some named) = IsUnfitAt p (last_marks path.corner path.swaps) named
@@ -110,9 +110,9 @@ HoldToSound p path unfit = HoldToApart p path × IsSoundPath p path unfit
 abbrev pub HoldToCalled : Problem → Path → Option Quantity → Type 0
 HoldToCalled p path unfit = HoldToSound p path unfit × IsCalledFor p path
 
--- clause 9: the first marks are a corner; 10: each swap is an exchange; 11: no corner comes twice; 12: what
--- has to hold at each corner does; 13: no corner before the last is an end, and each exchange is called for;
--- 14: the quantity does not fit at the last corner. The first that fails is named, unless there is no room
+-- clause 9: the first marks are a corner; 10: each swap is an exchange; 11: no corner comes twice; 12: each
+-- corner is sound; 13: no corner before the last is an end, and each exchange is called for; 14: the quantity
+-- does not fit at the last corner. The verdict is the first that fails, unless there is no room
 abbrev pub IsPathVerdict : Problem → Path → Option Quantity → PathVerdict → Type 0
 IsPathVerdict p path unfit Yes = HoldToCalled p path unfit × EndsInUnfit p path unfit
 IsPathVerdict p path unfit (NoRoom n) = HasNoRoom p path unfit n

@@ -6,7 +6,7 @@ use Rattle.cert_core.specs.Paths.{Path}
 use Rattle.path_lines.specs.Route.{over_marks}
 use Rattle.path_lines.specs.Tables.{IsUp, name_at}
 
--- the path has no swaps, and its corner is that where the route begins
+-- the path has no swaps, and its corner is the one where the route begins
 pub record IsAtStart (p : Problem) (path : Path) : Type 0 where
   pub swaps : path.swaps ≡ []
   pub corner : IsCorner p path.corner

@@ -1,4 +1,4 @@
--- The lines and levels of a corner of the route, and what is kept to make them.
+-- The lines and levels of a corner of the route, and the parts kept to make them.
 use Rattle.std.specs.Prelude.{◌≡◌, ◌⊎◌, ℕ, List, length, Option, None, Some}
 use Rattle.problem_core.specs.declared.parts.Mark.{Mark}
 use Rattle.problem_core.specs.declared.parts.Level.{Level}
@@ -53,7 +53,7 @@ HasUnfitSum p = HasUnfitFirst p ⊎ HasUnfitRows p
 
 -- ---- a corner of the route
 
--- the exchange leads here from the corner before, of which this is the table
+-- the exchange leads here from the corner before, whose table this is
 pub record ComesBy (p : Problem) (at : List Mark) (outline : Outline) (table : Table) (step : Step)
     : Type 0 where
   pub before : List Mark
@@ -61,7 +61,7 @@ pub record ComesBy (p : Problem) (at : List Mark) (outline : Outline) (table : T
   pub exchange : IsExchange p before (swap_of p step)
   pub next : at ≡ exchanged (swap_of p step) before
 
--- nothing is kept of the corner where the route begins; of a later one the table before the last exchange
+-- nothing is kept of the corner where the route begins; of a later one, the table before the last exchange
 abbrev pub IsStationBy : Problem → List Mark → Outline → Table → Option Step → Type 0
 IsStationBy p at outline table None = at ≡ over_marks p
 IsStationBy p at outline table (Some step) = ComesBy p at outline table step
@@ -75,7 +75,7 @@ abbrev pub IsUsableBy : Outline → Table → Option Step → Type 0
 IsUsableBy outline table None = Unit {0}
 IsUsableBy outline table (Some step) = IsSizedTable outline table × IsWithin (length table.lines.items) step
 
--- so it is with the table and the exchange of the station
+-- the table and the exchange of the station are usable
 abbrev pub IsUsableStation : Outline → Station → Type 0
 IsUsableStation outline station = IsUsableBy outline station.table station.step
 

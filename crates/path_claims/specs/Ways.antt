@@ -55,8 +55,8 @@ abbrev pub IsBegun : List Swap → Option Step → Type 0
 IsBegun [] o = o ≡ None
 IsBegun (s ∷ done) o = o ≢ None
 
--- the route has come here by so many exchanges, where this holds: these marks of the path's first corner are
--- inside, and the rest is to come
+-- the route has come to a corner by so many exchanges, at which this holds: these marks of the path's first
+-- corner are inside, and the rest is to come
 pub record IsRouteAt (p : Problem) (path : Path) (holds : List Mark → Type 0) (before rest : List Mark)
     (made : ℕ) (last : Option Step) (by_line : List (Option Side)) : Type 0 where
   pub done : List Swap

@@ -1,4 +1,4 @@
-// The checker's route along the swaps of a path, and what is judged at the corners before the last.
+// The checker's route along the swaps of a path, and the judgement of the corners before the last.
 ghost use Rattle.std.specs.Prelude.{◌↔◌, ◌≤◌, [], List, IfOk, IfErr, IsTrue, length};
 ghost use Rattle.problem_core.specs.Changes.Begins.{AreExchanges};
 ghost use Rattle.problem_core.specs.Corners.{IsCorner, IsExchange};
@@ -18,8 +18,8 @@ use path_levels::{is_end, is_sound, may_swap};
 use path_lines::{Step, is_exchange};
 use std::alloc::Global;
 
-/// What is kept of a path's last corner, whether all holds that has to at each corner before it, and whether
-/// each exchange is called for.
+/// The station of a path's last corner, whether each corner before it is sound, and whether each exchange is
+/// called for.
 #[derive(Drop)]
 pub struct Walked {
     pub station: Station,
@@ -27,7 +27,7 @@ pub struct Walked {
     pub is_called_for: bool,
 }
 
-/// Whether what has to hold at each corner of the path holds at the corner with this table.
+/// Whether the corner with this table is as each corner of the path must be.
 pub fn is_sound_there(case: PathCase<'_>, table: &Table) -> bool
     requires case { IsPathCase case }
     requires table { IsSizedTable case.outline.now table.now }
@@ -53,7 +53,7 @@ fn is_called_for(case: PathCase<'_>, table: &Table, step: Step) -> bool
     !is_last && may
 }
 
-/// Along the swaps, by places, from the path's first corner to its last, of which the table is not made.
+/// Along the swaps, by places, from the path's first corner to its last, whose table is not made.
 pub fn walk(
     alloc: Global,
     case: PathCase<'_>,

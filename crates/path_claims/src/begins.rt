@@ -22,7 +22,7 @@ pub enum Begun {
     },
 }
 
-/// The corner where a route begins, as far as its sums fit.
+/// The corner where a route begins, up to the first sum that does not fit.
 pub fn begin(alloc: Global, p: &Problem, outline: &Outline) -> Result<Begun, OutOfMemory>
     requires outline { IsOutline p.now outline.now }
     requires sized { IsSizedOutline outline.now }

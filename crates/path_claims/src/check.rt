@@ -30,7 +30,7 @@ use path_lines::{Step, names, steps_of};
 use problem_core::{Problem, Quantity, RowName};
 use std::alloc::Global;
 
-// The answer where the route ends early: this clause fails, or there is no room.
+// The answer if the route ends early: this clause fails, or there is no room.
 fn ended(stop: WayStop, clause: u32) -> Result<PathVerdict, OutOfMemory>
     ensures { IfOk result (IsEnded stop clause) }
 {
@@ -96,7 +96,7 @@ fn rows_before(p: &Problem, id: u32) -> usize
     rows.len()
 }
 
-// Whether what has to hold at the last corner does, where it is shown with this quantity.
+// Whether the last corner is sound, if the path is shown with this quantity.
 fn is_sound_last(
     alloc: Global,
     case: PathCase<'_>,
@@ -116,7 +116,7 @@ fn is_sound_last(
     }
 }
 
-// The verdict by the last corner, which an exchange leads to, with a quantity.
+// The verdict by the last corner, if an exchange leads to it and a quantity is shown.
 fn verdict_after(
     alloc: Global,
     case: PathCase<'_>,
@@ -137,7 +137,7 @@ fn verdict_after(
     Ok(verdict(all_sound, walked.is_called_for, fit, walked.station.count))
 }
 
-// The verdict by the last corner, where no quantity is shown.
+// The verdict by the last corner, if no quantity is shown.
 fn verdict_there(
     alloc: Global,
     case: PathCase<'_>,
@@ -161,7 +161,7 @@ fn verdict_there(
     Ok(verdict(all_sound, is_called_for, Fit::Unfit, count))
 }
 
-// The verdict on a path of whose clauses the first three hold.
+// The verdict on a path whose first three clauses hold.
 fn last_verdict(
     alloc: Global,
     case: PathCase<'_>,
@@ -181,7 +181,7 @@ fn last_verdict(
     }
 }
 
-// The verdict on a path whose first corner is one, and whose swaps are these.
+// The verdict on a path whose first corner is a corner, and whose swaps are these.
 fn along_verdict(
     alloc: Global,
     case: PathCase<'_>,
@@ -206,7 +206,7 @@ fn along_verdict(
     last_verdict(alloc, case, walked, unfit)
 }
 
-// The verdict on a path of so many different marks as there are rows.
+// The verdict on a path with as many different marks as there are rows.
 fn judged(
     alloc: Global,
     case: PathCase<'_>,
@@ -225,7 +225,7 @@ fn judged(
     along_verdict(alloc, case, &steps, station, unfit)
 }
 
-// The verdict on a path of as many marks as there are rows.
+// The verdict on a path with as many marks as there are rows.
 fn check_marks(
     alloc: Global,
     p: &Problem,
@@ -252,11 +252,11 @@ fn check_marks(
     judged(alloc, case, unfit)
 }
 
-/// The verdict on a path, shown with a quantity that does not fit at its last corner, or with none.
+/// The verdict on a path that is shown with a quantity that does not fit at its last corner, or with none.
 ///
 /// `No(9)`: the marks are no corner. `No(10)`: a swap is no exchange. `No(11)`: a corner comes twice.
-/// `No(12)`: on a primal path some value is negative, on a dual one some column; where a primal path without
-/// a swap is shown with a sum of first terms, the marks of its row and of rows after it are not judged.
+/// `No(12)`: on a primal path some value is negative, on a dual one some column. If a primal path without a
+/// swap is shown with a sum of first terms, the marks of its row and of rows after it are not judged.
 /// `No(13)`: a corner before the last is an end, or an exchange is not called for. `No(14)`: the quantity
 /// fits. `NoRoom`: after so many exchanges of the checker's own route a quantity that counts does not fit.
 pub fn check_path(

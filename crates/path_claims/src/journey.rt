@@ -33,14 +33,14 @@ pub struct PathCase<'a> {
     pub wanted: &'a [Option<Side>],
 }
 
-/// A corner on the way to a path's first, and which mark of each line is inside there.
+/// A corner on the way to a path's first corner, and which mark of each line is inside there.
 #[derive(Drop)]
 pub struct Journey {
     pub station: Station,
     pub sides: Vec<Option<Side>>,
 }
 
-// The exchange that brings a mark of the path's first corner in, and what is kept of the corner after it.
+// The exchange that brings in a mark of the path's first corner, and the station after it.
 fn brought(
     alloc: Global,
     case: PathCase<'_>,
@@ -64,7 +64,7 @@ fn brought(
     Ok(station_after(table, step, count))
 }
 
-// The corner after an exchange, with which mark of each line is inside.
+// The corner after an exchange, and which mark of each line is inside there.
 fn journey_after(sides: Vec<Option<Side>>, station: Station, outline: &Outline) -> Journey
     requires usable { IsUsableStation outline.now station }
     requires sides { length sides.items ≡ length outline.now.lines.items }
@@ -80,7 +80,8 @@ fn journey_after(sides: Vec<Option<Side>>, station: Station, outline: &Outline) 
     Journey { station, sides }
 }
 
-// The way on, where a mark of the path's first corner is inside, unless it was.
+// The route with one more mark of the path's first corner inside. If that mark is inside already, the route
+// stays as it is.
 fn with_mark(
     alloc: Global,
     case: PathCase<'_>,
@@ -122,7 +123,7 @@ fn first_journey(alloc: Global, p: &Problem) -> Result<Journey, OutOfMemory>
     Ok(Journey { station, sides })
 }
 
-/// What is kept of the path's first corner, unless something that counts does not fit on the way there.
+/// The station of the path's first corner, unless something that counts does not fit on the way there.
 pub fn to_first(alloc: Global, case: PathCase<'_>) -> Result<Station, WayStop>
     requires { IsPathCase case }
     ensures usable { IfOk result (IsUsableStation case.entry.outline.now) }

@@ -1,4 +1,4 @@
-// The corners of a path by numbers: two have the same one exactly where the same marks are inside.
+// The corners of a path by numbers: two have the same number exactly if the same marks are inside.
 ghost use Rattle.std.specs.Prelude.{◌≡◌, ◌<◌, ◌*◌, ◌≤◌, ◌+◌, ℕ, length, List, Option, All, IfOk, set};
 ghost use Rattle.problem_core.specs.declared.parts.Side.{Side};
 ghost use Rattle.path_lines.specs.Numbering.{AreCornerNumbers, AreNumbered, Extends, HasNumber};
@@ -11,12 +11,12 @@ use problem_core::Side;
 use std::alloc::Global;
 use std::collections::BTreeMap;
 
-// The pairs of numbers that came so far, each with a number of its own.
+// The pairs of numbers so far, each with a number of its own.
 type Pairs = BTreeMap<(usize, usize), usize>;
 
-// A tree over the lines. Of so many, the node `count + k` has the number of what is inside of the line k, and
-// each node below `count` that of the pair of the nodes `2 * node` and `2 * node + 1`. So the node 1 has the
-// corner's number.
+// A tree over the lines. Of so many, the node `count + k` has the number of the line k's inside mark, and
+// each node below `count` has the number of the pair of the nodes `2 * node` and `2 * node + 1`. So the node
+// 1 has the corner's number.
 #[derive(Drop)]
 struct Tree {
     pairs: Pairs,
@@ -34,7 +34,7 @@ fn number_of_side(side: Option<Side>) -> usize
     }
 }
 
-// The number of a pair, a new one where it has none.
+// The number of a pair, a new one if it has none.
 fn numbered(pairs: &mut Pairs, pair: (usize, usize)) -> Result<usize, OutOfMemory>
     requires { AreNumbered pairs.old }
     ensures numbered { IfOk result (λ _. AreNumbered pairs.new) }
@@ -66,7 +66,7 @@ impl Tree {
         Ok(())
     }
 
-    // Puts another mark at the line k in, or none, where there are so many lines.
+    // Puts another mark in at the line k, or none. There are so many lines.
     fn put(&mut self, count: usize, k: usize, side: Option<Side>) -> Result<(), OutOfMemory>
         requires numbered { AreNumbered self.old.pairs }
         requires count { length self.old.nodes.items ≡ 2 * count }
@@ -87,7 +87,6 @@ impl Tree {
         Ok(())
     }
 
-    // Makes an exchange.
     fn exchange(&mut self, count: usize, step: Step) -> Result<(), OutOfMemory>
         requires numbered { AreNumbered self.old.pairs }
         requires count { length self.old.nodes.items ≡ 2 * count }
@@ -104,7 +103,7 @@ impl Tree {
     }
 }
 
-// The numbers of the lines' marks behind as many zeros.
+// The numbers of the lines' marks after as many zeros.
 fn leaves(alloc: Global, sides: &[Option<Side>]) -> Result<Vec<usize>, OutOfMemory>
     ensures count { IfOk result (λ nodes. length nodes.items ≡ 2 * length sides.now) }
     ensures leaves { IfOk result (λ nodes. AreNodes nodes.items sides.now) }
@@ -133,7 +132,7 @@ fn tree_of(alloc: Global, sides: &[Option<Side>]) -> Result<Tree, OutOfMemory>
     Ok(tree)
 }
 
-/// The numbers of the corners from the first on, where each line has a place and there is one at least.
+/// The numbers of the corners from the first on, if each line has a place and there is at least one line.
 pub(crate) fn corner_numbers(
     alloc: Global,
     first: &[Option<Side>],

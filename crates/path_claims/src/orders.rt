@@ -1,4 +1,4 @@
-// The order of sums where a route begins: rows' by number and then levels', strongest first.
+// The order of sums where a route begins: rows' sums by number, and then levels' sums, strongest first.
 ghost use Rattle.std.specs.Prelude.{◌≡◌, ◌↔◌, ◌+◌, ◌<◌, ◌≤◌, ℕ, length, get_or, All};
 ghost use Rattle.std.specs.Prelude.{IfSome, IfNone, IsTrue, Some, false};
 ghost use Rattle.problem_core.specs.declared.limits.TheConstants.{REQUIRED};
@@ -16,7 +16,7 @@ use problem_core::{
     FIRST_STAY_LEVEL, Level, Mark, Problem, Quantity, REQUIRED, Row, RowName, Side,
 };
 
-/// Where a sum stands: at the number of its row or level, by how many it sums.
+/// The place of a sum in the order: the number of its row or level, and how many terms or rows it sums.
 #[derive(Clone, Copy)]
 pub struct SumAt {
     pub is_rows: bool,
@@ -67,7 +67,7 @@ fn level_number(p: &Problem, level: Level) -> Option<u32>
     }
 }
 
-// Where a sum stands, unless it is none of the problem's.
+// The place of a sum in the order, unless it is none of the problem's.
 fn sum_at(p: &Problem, sum: Quantity) -> Option<SumAt>
     ensures some { IfSome result (IsSumAt p.now sum) }
     ensures none { IfNone result (IsSumOf p.now sum → ⊥) }
@@ -152,7 +152,7 @@ fn is_sum(p: &Problem, sum: Quantity) -> bool
     }
 }
 
-/// How a quantity stands where this sum is the first that does not fit.
+/// Whether a quantity fits, if this sum is the first that does not.
 pub fn fit_before(p: &Problem, named: Quantity, unfit: Quantity) -> Fit
     requires { IsSumOf p.now unfit }
     ensures { IsFitBefore p.now named unfit result }
@@ -193,7 +193,7 @@ fn rows_before(p: &Problem, id: u32) -> usize
     p.rows().len()
 }
 
-/// How many of the rows are judged by their values where a path without swaps is shown with the quantity.
+/// How many of the rows are judged by their values, if a path without swaps is shown with the quantity.
 pub fn judged_rows(p: &Problem, named: Quantity) -> usize
     ensures { IsJudgedTo p.now (row_of_terms (Some named)) result }
 {

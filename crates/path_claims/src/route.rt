@@ -28,7 +28,7 @@ pub fn moved(sides: &mut [Option<Side>], step: Step)
     sides[step.enter.at] = Some(step.enter.side);
 }
 
-/// Whether it is the same side.
+/// Whether the sides are the same.
 pub fn is_one(a: Option<Side>, b: Option<Side>) -> bool
     ensures { IsTrue result ↔ (a ≡ b) }
 {
@@ -98,7 +98,8 @@ fn take_mark(names: &[RowName], sides: &mut [Option<Side>], mark: Mark) -> bool
     true
 }
 
-/// Which mark of each line is among these, unless they are no corner's: one is of no line, or two are of one.
+/// Which mark of each line is among these, unless one is of no line, or two are of one line. Then they are no
+/// corner's.
 pub fn sides_of(
     alloc: Global,
     names: &[RowName],
@@ -122,7 +123,7 @@ pub fn sides_of(
 
 // ---- the way to a path's first corner
 
-// The exchange of the mark for the inside one of the line, where that is not wanted.
+// The exchange of the mark for the inside mark of the line, if that mark is not wanted.
 fn gives_way(
     lines: &[Option<Inside>],
     wanted: &[Option<Side>],
@@ -150,8 +151,8 @@ fn gives_way(
     Some(step)
 }
 
-/// The exchange that brings a mark of a path's first corner in: for the first inside mark that is not one of
-/// them and makes an exchange.
+/// The exchange that brings in a mark of a path's first corner. The first inside mark that is not one of them
+/// and makes an exchange gives way.
 pub fn bringing_in(lines: &[Option<Inside>], wanted: &[Option<Side>], enter: Spot) -> Option<Step>
     requires enter { enter.at < length lines.now }
     requires wanted { length wanted.now ≡ length lines.now }

@@ -1,4 +1,4 @@
-// A path with a quantity that is the corner where the route begins.
+// A path that is the corner where the route begins, shown with a quantity.
 ghost use Rattle.std.specs.Prelude.{◌≡◌, ◌↔◌, ◌≤◌, ℕ, [], length, Option, Some, IfOk};
 ghost use Rattle.std.specs.Prelude.{IsTrue, true, false};
 ghost use Rattle.problem_core.specs.Layout.{Problem};
@@ -40,7 +40,7 @@ fn are_up(lines: &[Option<Inside>], count: usize) -> bool
     true
 }
 
-// Whether what has to hold at the corner does, where all is made, and so many rows are judged.
+// Whether the corner is sound, if all of it is made and so many rows are judged.
 fn is_sound_there(dual: bool, tableau: Tableau<'_>, judged: usize) -> bool
     requires tableau { HasSizedLevels tableau }
     requires judged { judged ≤ length tableau.corner.lines.now }
@@ -55,7 +55,7 @@ fn is_sound_there(dual: bool, tableau: Tableau<'_>, judged: usize) -> bool
     are_up(tableau.corner.lines, judged)
 }
 
-// The verdict on a path that holds to all clauses but SOUND_CLAUSE and UNFIT_CLAUSE, where the quantity fits.
+// The verdict on a path whose quantity fits and whose other clauses hold, except perhaps SOUND_CLAUSE.
 fn verdict_of_fitting(is_sound: bool) -> PathVerdict
     ensures { (is_sound ≡ true → result ≡ No UNFIT_CLAUSE) × (is_sound ≡ false → result ≡ No SOUND_CLAUSE) }
 {
@@ -66,7 +66,7 @@ fn verdict_of_fitting(is_sound: bool) -> PathVerdict
     }
 }
 
-// The verdict where a sum does not fit, and the lines before it are made.
+// The verdict if a sum does not fit, and the lines before it are made.
 fn verdict_until(
     p: &Problem,
     path: &Path,

@@ -28,7 +28,7 @@ pub struct Table {
 }
 
 impl Table {
-    /// The same with the outline of the problem whose lines and levels they are.
+    /// The same with the outline of the problem.
     pub fn tableau<'a>(&'a self, outline: &'a Outline) -> Tableau<'a>
         ensures outline { result.corner.outline.now ≡ outline.now }
         ensures lines { result.corner.lines.now ≡ self.now.lines.items }
@@ -41,9 +41,9 @@ impl Table {
     }
 }
 
-/// What is kept of a corner of the route: the table of the one before and the exchange that leads here, or
-/// nothing of the one where it begins, and how many exchanges led here. Its own table is made once it is
-/// asked for.
+/// The kept parts of a corner of the route: the table of the corner before and the exchange that leads here,
+/// and how many exchanges led here. Where the route begins no table is kept. The corner's own table is made
+/// when it is asked for.
 #[derive(Drop)]
 pub struct Station {
     pub table: Table,
@@ -51,7 +51,7 @@ pub struct Station {
     pub count: u32,
 }
 
-// The levels of the corner where the route begins, or a sum of first rows does not fit there.
+// The levels of the corner where the route begins, unless a sum of first rows does not fit there.
 fn begun_levels(
     alloc: Global,
     p: &Problem,
@@ -73,7 +73,7 @@ fn begun_levels(
     }
 }
 
-/// The table of the corner where the route begins, or a sum of first terms or rows does not fit there.
+/// The table of the corner where the route begins, unless a sum of first terms or rows does not fit there.
 pub fn first_table(alloc: Global, p: &Problem, outline: &Outline) -> Result<Table, SumStop>
     requires outline { IsOutline p.now outline.now }
     requires sized { IsSizedOutline outline.now }
@@ -91,7 +91,7 @@ pub fn first_table(alloc: Global, p: &Problem, outline: &Outline) -> Result<Tabl
     Ok(Table { lines, levels })
 }
 
-/// The table after an exchange, or something does not fit there.
+/// The table after an exchange, unless something does not fit there.
 pub fn table_after(
     alloc: Global,
     p: &Problem,
@@ -121,7 +121,7 @@ pub fn table_after(
     Ok(Table { lines, levels })
 }
 
-/// The table of a corner of the route, or something that counts does not fit there.
+/// The table of a corner of the route, unless something that counts does not fit there.
 pub fn table_now(
     alloc: Global,
     p: &Problem,
@@ -143,7 +143,7 @@ pub fn table_now(
     }
 }
 
-/// What is kept of a corner with this table after an exchange.
+/// The station after an exchange from a corner with this table.
 pub fn station_after(table: Table, step: Step, count: u32) -> Station
     requires { count + 1 < 2 ^ 32 }
     ensures table { result.table ≡ table }

@@ -1,7 +1,7 @@
 // The checker's answer on a path, and the numbers of the clauses.
 ghost use Rattle.path_claims.specs.Constants.{ConstantsAreAsSaid};
 
-/// What the checker says of a path: it is lawful, or the number of the first clause that fails, or the count
+/// The checker's answer on a path: it is lawful, or the number of the first clause that fails, or the number
 /// of exchanges of the checker's route after which a quantity that counts does not fit.
 #[derive(Clone, Copy, Debug, PartialEq, Eq)]
 pub enum PathVerdict {
@@ -19,7 +19,7 @@ pub const EXCHANGES_CLAUSE: u32 = 10;
 /// The clause that no corner of a path comes twice.
 pub const APART_CLAUSE: u32 = 11;
 
-/// The clause that what has to hold at each corner of a path does.
+/// The clause that each corner of a path is sound: no value is negative, on a dual path no column.
 pub const SOUND_CLAUSE: u32 = 12;
 
 /// The clause that no corner of a path before the last is an end, and each exchange is called for.

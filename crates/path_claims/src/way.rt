@@ -1,4 +1,4 @@
-// What a way keeps count of, what ends it, and which marks are inside where it begins.
+// The limit of a route's length, how a route ends, and the marks inside where it begins.
 ghost use Rattle.std.specs.Prelude.{◌≡◌, ◌≢◌, length, IfOk, IfErr, Ok, Err};
 ghost use Rattle.path_lines.specs.Tables.{line_count};
 ghost use Rattle.path_claims.specs.Ways.{AreFirstSides};
@@ -11,11 +11,12 @@ use problem_core::{Problem, Side};
 use std::alloc::Global;
 use thiserror::Error;
 
-/// What the number of marks and exchanges of a path is below, so that its exchanges are counted in 32 bits.
+/// The numbers of marks and of exchanges of a path are below this, so that its exchanges are counted in 32
+/// bits.
 pub const PATH_LIMIT: usize = 1 << 31;
 
-/// What ends a way: a clause fails, something that counts does not fit after so many exchanges, or memory is
-/// wanting.
+/// Why a route ends: a clause fails, something that counts does not fit after so many exchanges, or memory
+/// has run out.
 #[derive(Clone, Copy, Debug, PartialEq, Eq, Error)]
 pub enum WayStop {
     #[error("a clause of the path fails")]
@@ -36,7 +37,7 @@ impl From<OutOfMemory> for WayStop {
     }
 }
 
-/// What is made of a corner, or the stop after so many exchanges.
+/// The value, or that the route ends after so many exchanges because it does not fit.
 pub fn told<T>(made: Result<T, SumStop>, count: u32) -> Result<T, WayStop>
     ensures ok { IfOk result (λ out. made ≡ Ok out) }
     ensures stop { IfErr result (λ stop. stop ≢ ways.OutOfMemory

@@ -1,4 +1,4 @@
--- What holds after an exchange, of a corner whose lines are kept.
+-- What holds after an exchange at a corner whose lines are kept.
 use Rattle.std.specs.Prelude.{◌≡◌, ℕ, ◌<◌, List, length, Option}
 use Rattle.problem_core.specs.declared.parts.Mark.{Mark}
 use Rattle.problem_core.specs.Layout.{Problem}
@@ -19,35 +19,35 @@ pub record IsPivotCase (case : PivotCase) : Type 0 where
   pub lines_are : AreSized case.lines.now
   pub pivot_is : IsSizedPivot (length case.lines.now) case.pivot.now
 
--- it holds at the corner after the exchange with this pivot, of each corner with these lines
+-- it holds at the corner after the exchange with this pivot, for each corner with these lines
 abbrev pub AfterExchange : Problem → Pivot → List (Option Inside) → (List Mark → Type 0) → Type 0
 AfterExchange p pivot lines holds = (at : List Mark) → IsExchangePivot p at pivot → AreLines p at lines
     → holds (next_marks p pivot at)
 
--- the same of the case's corner
+-- the same for the case's corner
 abbrev pub AfterPivot : PivotCase → (List Mark → Type 0) → Type 0
 AfterPivot case holds = AfterExchange case.p.now case.pivot.now case.lines.now holds
 
--- the same, of each at which all attributes fit
+-- the same, for each such corner at which all attributes fit
 abbrev pub AfterFittingAttrs : PivotCase → (List Mark → Type 0) → Type 0
 AfterFittingAttrs case holds = (at : List Mark) → IsExchangePivot case.p.now at case.pivot.now
     → AreLines case.p.now at case.lines.now → AllAttrsFit case.p.now at
     → holds (next_marks case.p.now case.pivot.now at)
 
--- ---- of the line at a place, of so many
+-- ---- for the line at a place, of so many
 
 -- it holds at each corner at which this is kept of the line
 abbrev pub WithLine : LineAt → (Problem → List Mark → Type 0) → Type 0
 WithLine line holds = (p : Problem) (marks : List Mark) → IsThere p marks → line.count ≡ line_count p
     → line.at < line_count p → IsLineAt p marks (name_at p line.at) line.inside.now → holds p marks
 
--- it holds after the exchange with this pivot, of each such corner
+-- it holds after the exchange with this pivot, for each such corner
 abbrev pub AfterWithLine : Pivot → LineAt → (Problem → List Mark → Type 0) → Type 0
 AfterWithLine pivot line holds = (p : Problem) (marks : List Mark) → IsExchangePivot p marks pivot
     → line.count ≡ line_count p → line.at < line_count p
     → IsLineAt p marks (name_at p line.at) line.inside.now → holds p (next_marks p pivot marks)
 
--- it holds after the exchange by these places, of each such corner
+-- it holds after the exchange by these places, for each such corner
 abbrev pub AfterStepWithLine : Step → (at : ℕ) → Option Inside → (Problem → List Mark → Type 0) → Type 0
 AfterStepWithLine step at line holds = (p : Problem) (marks : List Mark) → IsThere p marks
     → IsExchange p marks (swap_of p step) → step.enter.at < line_count p → step.leave.at < line_count p

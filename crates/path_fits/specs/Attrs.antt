@@ -1,4 +1,4 @@
--- The sums of attributes: of a stay's deviation, and its target.
+-- The sums of attributes: a stay's target and its deviation.
 use Rattle.std.specs.Prelude.{◌≡◌, ◌≢◌, ℕ, ◌+◌, ◌<◌, List, length, get_or, All, Option, None, Some}
 use Rattle.frac_core.specs.Fraction.{Fraction, IsKept}
 use Rattle.problem_core.specs.declared.parts.Mark.{Mark}
@@ -21,7 +21,7 @@ pub record IsStayAt (p : Problem) (attr at : ℕ) (target : Fraction) : Type 0 w
   pub place : at ≡ length p.rows + stay
   pub is : (s : Stay) → get_or p.stays stay s ≡ record { attr = attr; target = target }
 
--- the sum is the attribute's at the corner, wherever this is its stay's line
+-- the sum is the attribute's at the corner, whenever this is its stay's line
 abbrev pub IsAttrBefore : Fraction → LineAt → Sum → Type 0
 IsAttrBefore target line sum = (p : Problem) (marks : List Mark) (attr : ℕ) → IsThere p marks
     → line.count ≡ line_count p → IsStayAt p attr line.at target
@@ -44,13 +44,13 @@ IsAttrAfter p at attr (Some sum) = IsQuantitySum p at (λ x. x (attr_column attr
 abbrev pub IsEmptyLevel : Problem → Level → Type 0
 IsEmptyLevel p level = (k : ℕ) → IsLevelAt p level k → All (λ l. l.level ≢ k) (lines p)
 
--- the attribute fits, wherever this is its stay's line and target
+-- the attribute fits, whenever this is its stay's line and target
 abbrev pub IsFittingStay : Fraction → Option Inside → Type 0
 IsFittingStay target line = (p : Problem) (marks : List Mark) (attr at : ℕ) → IsThere p marks
     → IsStayAt p attr at target → IsLineAt p marks (name_at p at) line
     → HasNoWriting p marks (λ x. x (attr_column attr)) → ⊥
 
--- the attribute does not fit, wherever this is its stay's line and target
+-- the attribute does not fit, whenever this is its stay's line and target
 abbrev pub IsUnfitStay : Fraction → Option Inside → Type 0
 IsUnfitStay target line = (p : Problem) (marks : List Mark) (attr at : ℕ) → IsThere p marks
     → IsStayAt p attr at target → IsLineAt p marks (name_at p at) line

@@ -38,7 +38,7 @@ pub record HasUnfitFirst (p : Problem) (at : List Mark) (facts : List LineFacts)
 
 -- ---- after an exchange
 
--- these lines are as they are kept
+-- after the exchange these lines are `next`
 abbrev pub AreFirstAfter : Last → Pivot → FirstLines → List (Option Inside) → Type 0
 AreFirstAfter last pivot firsts next = (k : ℕ) (d : Option Inside) → k < length last.tableau.corner.lines.now
     → IsFirstAt last.tableau.corner.outline.now.lines.items firsts k → (p : Problem)
@@ -50,7 +50,8 @@ abbrev pub LeadsToUnfitFirst : Last → Pivot → FirstLines → Type 0
 LeadsToUnfitFirst last pivot firsts = (p : Problem) → AfterExchange p pivot last.tableau.corner.lines.now
     (λ at. HasUnfitFirst p at last.tableau.corner.outline.now.lines.items firsts)
 
--- how so many first rows of the level at the place stand at each corner at which their lines are kept
+-- whether the sum of so many first rows of the level at the place fits, at each corner at which their lines
+-- are kept
 abbrev pub IsRowsFit : CornerLines → (place first : ℕ) → Fit → Type 0
 IsRowsFit corner place first fit = (p : Problem) (at : List Mark) (level : Level)
     → AreKeptOf p at corner.outline.now place first corner.lines.now

@@ -26,12 +26,12 @@ IsTermsValue p r j value = (by : List ℤ) × IsTermsSum p r j by value
 abbrev pub IsUnfitSum : Problem → Row → ℕ → Type 0
 IsUnfitSum p r j = HasNoWriting p (over_marks p) (first_terms r j)
 
--- the value of the sum with the term, wherever it is the next one
+-- the value of the sum with the term, whenever it is the next one
 abbrev pub IsNextValue : Problem → Term → Fraction → Fraction → Type 0
 IsNextValue p term value next = (r : Row) (j : ℕ) (d : Term) → j < length r.terms → get_or r.terms j d ≡ term
     → IsTermsValue p r j value → IsTermsValue p r (j + 1) next
 
--- the sum with the term does not fit, wherever it is the next one
+-- the sum with the term does not fit, whenever it is the next one
 abbrev pub IsNextTooMuch : Problem → Term → Fraction → Type 0
 IsNextTooMuch p term value = (r : Row) (j : ℕ) (d : Term) → j < length r.terms → get_or r.terms j d ≡ term
     → IsTermsValue p r j value → IsUnfitSum p r (j + 1)
@@ -72,7 +72,7 @@ pub record IsStopAt (p : Problem) (at : ℕ) (sum : Quantity) : Type 0 where
   pub sum_is : sum ≡ Terms (over_mark row.id) first
   pub unfit : IsFirstUnfitSum p row first
 
--- the lines of all rows, or of those before a sum that does not fit
+-- the lines of all rows, or of the rows before a sum that does not fit
 abbrev pub AreMadeUntil : Problem → List (Option Inside) → Option Quantity → Type 0
 AreMadeUntil p lines None = AreMade p (length p.rows) lines
 AreMadeUntil p lines (Some sum) = AreMade p (length lines) lines × IsStopAt p (length lines) sum

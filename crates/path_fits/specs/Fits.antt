@@ -1,4 +1,4 @@
--- How a quantity stands at a corner that an exchange leads to.
+-- Whether a quantity fits at the corner after an exchange.
 use Rattle.std.specs.Prelude.{ℕ, List, length}
 use Rattle.problem_core.specs.declared.parts.Mark.{Mark}
 use Rattle.problem_core.specs.declared.stops.Quantity.{Quantity}
@@ -24,7 +24,7 @@ IsFitAt p at named NoRoom = (q : Quantity) × IsPartOf p named q × IsUnfitAt p 
 
 -- ---- the corner after an exchange
 
--- lines and levels have the lengths that the outline says, and fit
+-- lines and levels have the outline's lengths, and fit
 pub record IsSizedLast (last : Last) : Type 0 where
   pub tableau : HasSizedLevels last.tableau
   pub lines : AreSized last.tableau.corner.lines.now
@@ -34,7 +34,7 @@ pub record IsSizedLast (last : Last) : Type 0 where
 abbrev pub AllAttrsFit : Problem → List Mark → Type 0
 AllAttrsFit p at = (attr : ℕ) → IsUnfitWhat p at (Attr attr) → ⊥
 
--- lines and levels are those of the corner before, at which all attributes fit, and this is an exchange there
+-- lines and levels are kept of the corner before, at which all attributes fit, and this is an exchange there
 pub record IsLastAfter (p : Problem) (at : List Mark) (last : Last) : Type 0 where
   pub kept : AreKept p at last.tableau.corner.outline.now last.tableau.corner.lines.now
   pub levels : AreLevels p at last.tableau.corner.outline.now last.tableau.levels.now

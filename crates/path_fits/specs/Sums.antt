@@ -34,7 +34,7 @@ pub record IsQuantitySum (p : Problem) (at : List Mark) (quantity : (ℕ → ℤ
   pub equation : IsLineEquation p at quantity (unsigned_abs sum.own)
       (numbers_of (lines p) sum.by.items) sum.value.num sum.value.den
 
--- what is known of a quantity before the exchange is so after it
+-- if before the exchange the sum is the quantity's, after it `next` is
 abbrev pub IsSumAfter : Pivot → Sum → Sum → Type 0
 IsSumAfter pivot sum next = (p : Problem) (at : List Mark) (quantity : (ℕ → ℤ) → ℤ)
     → IsExchangePivot p at pivot → IsQuantitySum p at quantity sum
@@ -74,7 +74,7 @@ abbrev pub AreUpAfter : Problem → List Mark → Pivot → (judged rows : ℕ) 
 AreUpAfter p at pivot judged rows = (k : ℕ) → k < line_count p → (k < judged) ⊎ (rows ≤ k)
     → IsUp p (next_marks p pivot at) (name_at p k)
 
--- ---- sums as they are made
+-- ---- the making of sums
 
 -- the same numbers with this value
 pub record IsCopy (sum : Sum) (value : Fraction) (next : Sum) : Type 0 where
@@ -88,7 +88,7 @@ pub record IsUnitList (count at : ℕ) (by : List ℤ) : Type 0 where
   pub here : at < count → number_at by at ≡ pos 1
   pub others : (k : ℕ) → k < count → k ≢ at → number_at by k ≡ pos 0
 
--- a line by itself and this value
+-- a line by itself plus this value
 pub record IsUnitSum (count at : ℕ) (value : Fraction) (sum : Sum) : Type 0 where
   pub own : sum.own ≡ pos 1
   pub by : IsUnitList count at sum.by.items

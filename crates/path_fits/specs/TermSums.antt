@@ -27,12 +27,12 @@ abbrev pub IsTermMore : Sum → ℤ → Sum → Sum → Type 0
 IsTermMore sum by more next = (p : Problem) (at : List Mark) (q u : (ℕ → ℤ) → ℤ) → IsThere p at
     → IsQuantitySum p at q sum → IsQuantitySum p at u more → IsQuantitySum p at (λ x. q x +ℤ by *ℤ u x) next
 
--- the quantity and `by` times the other, added up, do not fit
+-- the sum of the quantity and `by` times the other does not fit
 abbrev pub IsTermUnfit : Sum → ℤ → Sum → Type 0
 IsTermUnfit sum by more = (p : Problem) (at : List Mark) (q u : (ℕ → ℤ) → ℤ) → IsThere p at
     → IsQuantitySum p at q sum → IsQuantitySum p at u more → HasNoWriting p at (λ x. q x +ℤ by *ℤ u x)
 
--- an attribute of the terms does not fit, or the sum of so many of them
+-- an attribute of the terms does not fit, or the sum of so many of them does not
 abbrev pub IsTermsStop : Problem → List Mark → List Term → TermsStop → Type 0
 IsTermsStop p at terms (UnfitAttr attr) = Any (λ t. t.attr ≡ attr) terms × IsUnfitWhat p at (Attr attr)
 IsTermsStop p at terms (UnfitTerms j) = (1 ≤ j) × (j ≤ length terms)
@@ -55,7 +55,8 @@ IsAttrStop p at attr (UnfitAttr other) = (other ≡ attr) × IsUnfitWhat p at (A
 IsAttrStop p at attr (UnfitTerms j) = ⊥
 IsAttrStop p at attr OutOfMemory = Unit {0}
 
--- how the sum of the row's first terms stands; what it is made of are fewer terms and their attributes
+-- whether the sum of the row's first terms fits. Its parts are the sums of fewer terms and the terms'
+-- attributes
 abbrev pub IsRowFit : Problem → List Mark → Row → ℕ → Fit → Type 0
 IsRowFit p at r first Fits = HasNoWriting p at (first_terms r first) → ⊥
 IsRowFit p at r first Unfit = HasNoWriting p at (first_terms r first)

@@ -18,19 +18,19 @@ use problem_core::{Mark, Problem, Quantity, Row, RowName, Side, Stay, Term};
 use std::alloc::Global;
 use thiserror::Error;
 
-/// The sum of so many first terms of a row does not fit, one more than there are terms for all of them less
-/// the constant.
+/// The sum of so many first terms of a row does not fit. If the count is one more than the row has terms, it
+/// is the sum of all terms less the constant.
 #[derive(Clone, Copy, Debug, Error)]
 #[error("the sum of the first {first} terms of a row does not fit")]
 pub struct UnfitTerms {
     pub first: u32,
 }
 
-/// Why a row's line is not made: a sum of first terms does not fit, or memory is wanting.
+/// Why a row's line is not made: a sum of first terms does not fit, or memory has run out.
 pub type LineStop = Stop<UnfitTerms>;
 
-/// The lines of the rows where the route begins, and the first sum that does not fit, where there is one: the
-/// lines end before its row.
+/// The lines of the rows where the route begins, and the first sum that does not fit, if there is one. Then
+/// the lines end before its row.
 #[derive(Drop)]
 pub struct RowLines {
     pub lines: Vec<Option<Inside>>,
@@ -48,7 +48,7 @@ fn target_of(stays: &[Stay], attr: u32) -> Frac
     }
 }
 
-// The value of a sum of terms with one term more.
+// The value of a sum with one more term.
 fn with_term(p: &Problem, value: Frac, term: Term) -> Result<Frac, Unfit>
     requires term { IsTerm term }
     requires stay { HasStay p.now.stays term.attr }
@@ -61,7 +61,8 @@ fn with_term(p: &Problem, value: Frac, term: Term) -> Result<Frac, Unfit>
     Frac::mul_add(value, term.by, 1, target)
 }
 
-// How many first terms of a row have no sum that fits where the route begins, unless all such sums fit.
+// The least number of first terms of a row whose sum does not fit where the route begins, unless all such
+// sums fit.
 fn unfit_terms(p: &Problem, r: &Row) -> Option<u32>
     requires { IsRowOf p.now r.now }
     ensures some { IfSome result (IsFirstUnfitSum p.now r.now) }
@@ -81,7 +82,8 @@ fn unfit_terms(p: &Problem, r: &Row) -> Option<u32>
     None
 }
 
-// The sum of a row where the route begins, or the first sum of its first terms does not fit.
+// The sum of a row where the route begins, unless the sum of some of its first terms does not fit. Then the
+// first such sum.
 fn first_line(alloc: Global, p: &Problem, r: &Row) -> Result<Sum, LineStop>
     requires { IsRowOf p.now r.now }
     ensures sum { IfOk result (IsSumOf p.now (over_marks p.now) (Held r.now.id)) }

@@ -1,4 +1,4 @@
-// The corner after the last exchange of a path, at which not all has to fit.
+// The corner after the last exchange of a path, at which not everything has to fit.
 mod after;
 pub(crate) mod fits;
 mod line_sums;
@@ -28,7 +28,7 @@ use path_lines::{Inside, Pivot, Step};
 use problem_core::{Problem, Quantity, What};
 use std::alloc::Global;
 
-/// How a quantity stands at a corner: it fits, it does not, or something that it is made of does not.
+/// Whether a quantity fits at a corner: it fits, it does not, or a part of it does not.
 #[derive(Clone, Copy, PartialEq, Eq)]
 pub enum Fit {
     Fits,
@@ -51,7 +51,7 @@ pub(crate) struct PivotCase<'a> {
     pub pivot: &'a Pivot,
 }
 
-// How what is written stands after the exchange.
+// Whether an attribute, a mark or a level fits after the exchange.
 fn what_fit(
     alloc: Global,
     p: &Problem,
@@ -75,7 +75,7 @@ fn what_fit(
     }
 }
 
-// How the quantity stands after the exchange with this pivot.
+// Whether the quantity fits after the exchange with this pivot.
 fn quantity_fit(
     alloc: Global,
     p: &Problem,
@@ -105,7 +105,7 @@ fn quantity_fit(
     }
 }
 
-/// How the quantity stands after the exchange.
+/// Whether the quantity fits after the exchange.
 pub fn fit_after(
     alloc: Global,
     p: &Problem,
@@ -118,19 +118,19 @@ pub fn fit_after(
 {
     p.show_whole(); // for the proof: what a problem keeps
     let lines = last.tableau.corner.lines;
-    // a corner that is kept has a line for each row and stay, so that nothing is owed here
+    // a kept corner has a line for each row and stay: the clause asks nothing here
     if lines.len() != p.rows().len() + p.stays().len() {
         return Ok(Fit::Fits);
     }
     match pivot_of(alloc, lines, last.step) {
         Ok(pivot) => quantity_fit(alloc, p, last, &pivot, named),
         Err(Stop::OutOfMemory) => Err(OutOfMemory),
-        // nor where the step is no exchange
+        // nor if the step is no exchange
         Err(Stop::Refused(_)) => Ok(Fit::Fits),
     }
 }
 
-/// Whether what has to hold at each corner of a path holds after the exchange.
+/// Whether the corner after the exchange is as each corner of a path must be.
 pub fn is_sound_after(alloc: Global, dual: bool, last: Last<'_>) -> Result<bool, OutOfMemory>
     requires { IsSizedLast last }
     ensures { IfOk result (λ holds. (p : Problem) (at : List Mark) → IsLastAfter p at last.entry
@@ -152,8 +152,8 @@ pub fn is_sound_after(alloc: Global, dual: bool, last: Last<'_>) -> Result<bool,
     }
 }
 
-/// Whether no value is negative after the exchange, where the marks of the rows from a place on, of so many,
-/// are not judged.
+/// Whether no value is negative after the exchange. The marks of the rows from a place on, of so many, are
+/// not judged.
 pub fn has_no_negative_before_after(
     alloc: Global,
     last: Last<'_>,

@@ -1,9 +1,10 @@
-//! What fits at the two corners of a checked route at which not all has to: the first, where the route
-//! begins, and the one after the last exchange, whose numbers may be what a path is to show.
+//! Fitting at the two corners of a checked route at which not everything has to fit: the first, where the
+//! route begins, and the corner after the last exchange. A path may end there to show which of its numbers
+//! does not fit.
 //!
-//! Of the first corner the rows' sums are made ([`row_lines`]), up to one that doesn't fit. Of the last one
-//! only what is asked for is made, from the corner before it and the exchange (a [`Last`]): [`fit_after`]
-//! says of a quantity whether it fits there, and [`is_sound_after`] whether what has to hold does.
+//! At the first corner the rows' sums are made ([`row_lines`]), up to one that does not fit. At the last
+//! corner only the quantity in question is computed, from the corner before it and the exchange (a [`Last`]):
+//! [`fit_after`] says whether a quantity fits there, and [`is_sound_after`] whether the corner is sound.
 //!
 //! ```
 //! let last = Last { tableau, step };                                      // the corner before, and how on
@@ -11,10 +12,10 @@
 //! ```
 //!
 //! Linear programming's words: a quantity is a basic variable's value, an entry of the tableau or a reduced
-//! cost, or a sum on the way to one, as it stands after the last pivot.
+//! cost after the last pivot, or a partial sum of one.
 //!
-//! What always holds: an answer `Unfit` is of a quantity all of whose parts fit, and `NoRoom` of one that is
-//! made of something that doesn't.
+//! The answer `Unfit` means that all parts of the quantity fit, and the answer `NoRoom` that one of them does
+//! not.
 //!
 //! In reading order: `firsts` (the sums of the first corner), `last` (a quantity after an exchange, by its
 //! modules `fits`, `terms`, `rows_after`, `sums_after`, `line_sums`, `after`), `places` (of levels).

@@ -1,4 +1,4 @@
--- Why the route stops where no exchange can be made, and what the checker's answer on a path entails.
+-- Why the route stops if no exchange can be made, and what the checker's answer on a path entails.
 use Rattle.std.specs.Prelude.{◌≢◌, ℕ, List, ℤ, pos}
 use Rattle.problem_core.specs.declared.parts.Side.TheVariants.{Under, Over}
 use Rattle.problem_core.specs.declared.parts.RowName.{RowName}
@@ -12,24 +12,24 @@ use Rattle.corner_lines.specs.LineEquations.{IsLineEquation, deviation}
 use Rattle.path_lines.specs.Route.{MayGiveWay, over_marks}
 use Rattle.path_lines.specs.Tables.{IsThere}
 
--- an entering line that does not stand in the leaving line's equation makes no exchange
+-- an entering line without a number in the leaving line's equation makes no exchange
 abbrev pub ExchangeNeedsNumber : Type 0
 ExchangeNeedsNumber = (p : Problem) (at : List Mark) (s : Swap) (own : ℕ) (by : RowName → ℤ) (num : ℤ)
     (den : ℕ) → IsWhole p → IsCorner p at → HasRays p at → IsMarkAt p (place s.enter)
     → s.enter.row ≢ s.leave.row → IsLineEquation p at (deviation s.leave.row) own by num den
     → IsExchange p at s → by s.enter.row ≢ pos 0
 
--- where no inside mark can give way to one of these marks, they are no corner
+-- if no inside mark can give way to one of these marks, they are no corner
 abbrev pub NoneGivesWay : Type 0
 NoneGivesWay = (p : Problem) (wanted at : List Mark) (m : Mark) → IsCorner p at → HasRays p at
     → IsMarkAt p (place m) → (IsIn (place m) at → ⊥) → IsIn (place m) wanted
     → ((n : Mark) → MayGiveWay p wanted at (record { enter = m; leave = n }) → ⊥) → IsCorner p wanted → ⊥
 
--- nor are both marks of a line among those of a corner
+-- both marks of a line are never among those of a corner
 abbrev pub OneMarkOfLine : Type 0
 OneMarkOfLine = (p : Problem) (at : List Mark) (name : RowName) → IsWhole p → IsCorner p at
     → IsIn (place_of name Under) at → IsIn (place_of name Over) at → ⊥
 
--- the over marks of the held rows are a corner, where the route begins
+-- the over marks of the held rows are a corner, at which the route begins
 abbrev pub BeginsThere : Type 0
 BeginsThere = (p : Problem) → IsWhole p → IsThere p (over_marks p)

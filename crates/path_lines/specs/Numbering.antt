@@ -21,7 +21,7 @@ HasDouble numbers = (i j : ℕ) × (i < j) × (j < length numbers)
 abbrev pub corner_at : List (Option Side) → List Step → ℕ → List (Option Side)
 corner_at first steps i = get_or (first ∷ walk first steps) i []
 
--- a number for each corner, the first one too: two are the same exactly where the corners are
+-- a number for each corner, the first one too: two are the same exactly if the corners are
 pub record AreCornerNumbers (first : List (Option Side)) (steps : List Step) (numbers : List ℕ) : Type 0 where
   pub count : length numbers ≡ length steps + 1
   pub same : (i j : ℕ) → i < length numbers → j < length numbers
@@ -54,7 +54,7 @@ Extends old new = (pair : ℕ × ℕ) (number : ℕ) → HasNumber old pair numb
 abbrev pub entry : List ℕ → ℕ → ℕ
 entry nodes at = slice_index_or nodes at 0
 
--- the number of what is inside of a line
+-- the number of a line's inside mark: 0 for none, 1 for under, 2 for over
 abbrev pub number_of : Option Side → ℕ
 number_of None = 0
 number_of (Some Under) = 1
@@ -70,7 +70,7 @@ abbrev pub IsNode : BTreeMap (ℕ × ℕ) ℕ → List ℕ → ℕ → Type 0
 IsNode pairs nodes node =
     HasNumber pairs (entry nodes (2 * node), entry nodes (2 * node + 1)) (entry nodes node)
 
--- so it is with each inner node
+-- each inner node has the number of its pair
 pub record IsTree (pairs : BTreeMap (ℕ × ℕ) ℕ) (nodes : List ℕ) (sides : List (Option Side)) : Type 0 where
   pub count : length nodes ≡ 2 * length sides
   pub leaves : AreNodes nodes sides

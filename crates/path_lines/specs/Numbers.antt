@@ -45,18 +45,18 @@ abbrev pub HasTooLarge : ℤ → List ℤ → Type 0
 HasTooLarge divisor numbers = (at : ℕ) × (at < length numbers)
     × (unsigned_abs divisor * PART_BOUND ≤ unsigned_abs (number_at numbers at))
 
--- k times the one number and m times the other, place by place
+-- k times one number and m times the other, place by place
 pub record IsCombined (k : ℤ) (left : List ℤ) (m : ℤ) (right out : List ℤ) : Type 0 where
   pub count : length out ≡ length left
   pub each : (at : ℕ) → at < length left
       → number_at out at ≡ k *ℤ number_at left at +ℤ m *ℤ number_at right at
 
--- where it is true a number times it has the other sign
+-- -1 if it is true, or else 1
 abbrev pub flip_sign : Bool → ℤ
 flip_sign true = negsuc 0
 flip_sign false = pos 1
 
--- each number times the factor, and another one at the place
+-- each number times the factor, and `number` at the place
 pub record IsReplaced (times : ℤ) (numbers : List ℤ) (at : ℕ) (number : ℤ) (out : List ℤ) : Type 0 where
   pub count : length out ≡ length numbers
   pub here : at < length numbers → number_at out at ≡ number

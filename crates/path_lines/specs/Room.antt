@@ -1,4 +1,4 @@
--- Where `NoRoom` may come: which quantities count at which corner of the route.
+-- When `NoRoom` may come: which quantities count at which corner of the route.
 use Rattle.std.specs.Prelude.{◌≡◌, ◌⊎◌, ℕ, ◌+◌, ◌<◌, ◌≤◌, Bool, false, true, nat_eq, List, [], ◌∷◌}
 use Rattle.std.specs.Prelude.{length, take, filter, Any, Option, None, Some}
 use Rattle.problem_core.specs.declared.parts.Mark.{Mark}
@@ -14,7 +14,8 @@ use Rattle.cert_core.specs.Paths.{Path}
 use Rattle.cert_core.specs.Stops.{IsPartial, IsPlain}
 use Rattle.path_lines.specs.Route.{IsRoute, IsWholeRoute, corner_after}
 
--- before the last corner of a path with a quantity, and at each of one without
+-- which quantities count before the last corner of a path with a quantity, and at each corner of a path
+-- without one: sums at the route's first corner, and others later
 abbrev pub CountsOnTheWay : List Swap → Quantity → Type 0
 CountsOnTheWay [] q = IsPartial q
 CountsOnTheWay (s ∷ done) q = IsPlain q
@@ -39,14 +40,14 @@ IsInRows p level j (Terms mark i) = ⊥
 IsInRows p level j (Rows other i) = (other ≡ level) × (i < j)
 IsInRows p level j (Shifts what i) = ⊥
 
--- q is part of the named sum: the same sum of fewer, or an attribute or a mark that it sums
+-- q is part of the named sum: the sum of fewer terms or rows, or an attribute or a mark that it sums
 abbrev pub IsPartOf : Problem → Quantity → Quantity → Type 0
 IsPartOf p (Plain what) q = ⊥
 IsPartOf p (Terms mark j) q = IsInTerms p mark j q
 IsPartOf p (Rows level j) q = IsInRows p level j q
 IsPartOf p (Shifts what j) q = ⊥
 
--- a row's terms by its number and their count, before a level's rows, strongest first, by theirs
+-- a row's terms, by its number and their count, come before a level's rows, strongest first, by their count
 abbrev pub ComesBefore : Problem → Quantity → Quantity → Type 0
 ComesBefore p (Terms m i) (Terms n j) = (a b : ℕ) × (m ≡ over_mark a) × (n ≡ over_mark b)
     × ((a < b) ⊎ ((a ≡ b) × (i < j)))
@@ -61,7 +62,7 @@ ComesBefore p (Rows level i) (Shifts what j) = Unit {0}
 ComesBefore p (Plain what) q = ⊥
 ComesBefore p (Shifts what j) q = ⊥
 
--- a sum of the problem's: of a row with so many terms, or one more, or of a level with so many rows
+-- a sum of the problem's: of a row with so many terms or one more, or of a level with so many rows
 abbrev pub IsSumOf : Problem → Quantity → Type 0
 IsSumOf p (Plain what) = ⊥
 IsSumOf p (Terms mark j) = Any (λ r. (mark ≡ over_mark r.id) × (1 ≤ j) × (j ≤ length r.terms + 1)) p.rows
@@ -69,8 +70,8 @@ IsSumOf p (Rows level j) = (k : ℕ) × IsLevelAt p level k × (1 ≤ j)
     × (j ≤ length (filter (λ l. nat_eq l.level k) (lines p)))
 IsSumOf p (Shifts what j) = ⊥
 
--- on a primal path only what comes before the named one counts; one that is no sum of the problem's comes
--- after all of them
+-- on a primal path only what comes before the named one counts. A quantity that is no sum of the problem's
+-- comes after all sums
 abbrev pub IsEarlier : Bool → Problem → Quantity → Quantity → Type 0
 IsEarlier true p named q = Unit {0}
 IsEarlier false p named q = IsSumOf p named → ComesBefore p q named

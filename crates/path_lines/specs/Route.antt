@@ -24,8 +24,8 @@ pub record GivesWay (p : Problem) (wanted at : List Mark) (s : Swap) : Type 0 wh
   pub first : (m : Mark) → MayGiveWay p wanted at (record { enter = s.enter; leave = m })
       → ComesBefore m.row s.leave.row → ⊥
 
--- the route goes by these exchanges from here, where these marks are still to be brought in, one after the
--- other, and then these swaps are to be made; it may stop on the way
+-- the route goes on by these exchanges: the marks that are not inside yet enter one after the other, and then
+-- the swaps are made. It may stop on the way
 abbrev pub GoesBy : Problem → List Mark → List Swap → List Mark → List Mark → List Swap → Type 0
 GoesBy p wanted swaps at [] done = (done ≡ take (length done) swaps) × AreExchanges p at done
 GoesBy p wanted swaps at (m ∷ rest) [] = Unit {0}
@@ -42,7 +42,8 @@ IsRoute p path done = GoesBy p path.corner path.swaps (over_marks p) path.corner
 abbrev pub corner_after : Problem → List Swap → List Mark
 corner_after p done = last_marks (over_marks p) done
 
--- nothing is left: all marks of the path's first corner are inside before its swaps begin, which are all made
+-- nothing is left: all marks of the path's first corner are inside before its swaps begin, and all swaps are
+-- made
 abbrev pub EndsBy : List Mark → List Swap → List Mark → List Swap → Type 0
 EndsBy wanted swaps at done = (brings : List Swap) × (done ≡ brings ++ swaps)
     × All (λ m. IsIn (place m) (last_marks at brings)) wanted

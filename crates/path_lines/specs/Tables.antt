@@ -1,4 +1,4 @@
--- Lines by their places, and what is kept of them at a corner.
+-- Lines by their places, and the kept lines of a corner.
 use Rattle.std.specs.Prelude.{◌≡◌, ◌≢◌, ℕ, ◌<◌, cond, nat_eq, List, [], ◌∷◌, map, length, get_or, ℤ, pos}
 use Rattle.std.specs.Prelude.{◌<ℤ◌, ◌⊎◌, ◌↔◌, ◌≤◌, ◌≤ℤ◌, unsigned_abs, slice_index_or, Option, None, Some}
 use Rattle.problem_core.specs.declared.parts.Side.{Side}
@@ -66,7 +66,7 @@ abbrev pub IsLineAt : Problem → List Mark → RowName → Option Inside → Ty
 IsLineAt p at name None = IsOutsideLine at name
 IsLineAt p at name (Some inside) = IsIn (place_of name inside.side) at × IsSumOf p at name inside.sum
 
--- each line is as it is kept
+-- the lines of the corner are kept, one by one
 pub record AreLines (p : Problem) (at : List Mark) (kept : List (Option Inside)) : Type 0 where
   pub count : length kept ≡ line_count p
   pub each : (k : ℕ) (d : Option Inside) → k < line_count p → IsLineAt p at (name_at p k) (get_or kept k d)
@@ -95,7 +95,7 @@ pub record IsTurned (at : ℕ) (side : Side) (old next : List (Option Inside)) :
   pub here : (d : Option Inside) → IsTurnedLine side (get_or old at d) (get_or next at d)
   pub others : (k : ℕ) (d : Option Inside) → k ≢ at → get_or next k d ≡ get_or old k d
 
--- after the exchange of a line's two marks the lines so turned are those of the corner
+-- after the exchange of a line's two marks, the lines turned so are those of the corner
 abbrev pub TurnedLinesAre : Type 0
 TurnedLinesAre = (p : Problem) (at : List Mark) (step : Step) (old next : List (Option Inside))
     → IsThere p at → step.enter.at < line_count p → step.enter.at ≡ step.leave.at
@@ -109,14 +109,14 @@ abbrev pub IsUp : Problem → List Mark → RowName → Type 0
 IsUp p at name = (x : Point) (side : Side) → StandsAt p at x → IsIn (place_of name side) at
     → pos 0 ≤ℤ x.num (place_of name side)
 
--- the lines before the one place, and those from the other on, are stays and rows of lesser numbers
+-- the lines before `judged` and from `rows` on, and no others, are stays or rows with a number below `id`
 abbrev pub AreJudged : Problem → (id judged rows : ℕ) → Type 0
 AreJudged p id judged rows = (k : ℕ) → k < line_count p
     → ((k < judged) ⊎ (rows ≤ k)) ↔ IsBefore id (name_at p k)
 
 -- ---- marks by line
 
--- which mark of each line is among these
+-- for each line, which of its marks is among these
 pub record AreSides (p : Problem) (at : List Mark) (sides : List (Option Side)) : Type 0 where
   pub count : length sides ≡ line_count p
   pub each : (k : ℕ) (side : Side) → k < line_count p
@@ -126,7 +126,7 @@ pub record AreSides (p : Problem) (at : List Mark) (sides : List (Option Side)) 
 abbrev pub names_of : Problem → List RowName
 names_of p = map (λ l. l.name) (lines p)
 
--- the mark is that of the line at the place
+-- the spot has the place of the mark's line, and the mark's side
 abbrev pub IsSpotOf : List RowName → Mark → Spot → Type 0
 IsSpotOf names mark spot = (spot.at < length names) × (slice_index_or names spot.at (Held 0) ≡ mark.row)
     × (spot.side ≡ mark.side)

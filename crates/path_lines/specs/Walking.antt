@@ -1,2 +1,2 @@
--- The checker's route by what is kept of the lines: its first corner, and exchange by exchange.
+-- The checker's route by the kept lines: its first corner, and exchange by exchange.
 pub mod FirstLines

@@ -23,8 +23,8 @@ use crate::table::{Inside, Sum, turn};
 use frac_core::{Frac, OutOfMemory, Stop, Unfit};
 use std::alloc::Global;
 
-/// An exchange with the leaving line's sum, solved for the entering line: `size` times what the entering
-/// line's deviation is. Where both marks are of one line, its own sum.
+/// An exchange with the leaving line's sum, solved for the entering line: `size` times the entering line's
+/// deviation. If both marks are of one line, the sum is that line's own.
 #[derive(Drop)]
 pub struct Pivot {
     pub step: Step,
@@ -39,7 +39,7 @@ pub struct Pivot {
     pub times: i64,
 }
 
-// The number, or another one at the place.
+// `old`, or `number` at the place.
 fn replaced(old: i64, place: usize, at: usize, number: i64) -> i64
     requires old { IsFitting old }
     requires number { IsFitting number }
@@ -59,7 +59,7 @@ fn turned(number: i64, is_turned: bool) -> i64
     if is_turned { -number } else { number }
 }
 
-// The list with another number at the place, where all others may be taken with the other sign.
+// The list with `number` at the place. All others may change their sign.
 fn with_number(
     alloc: Global,
     numbers: &[i64],
@@ -79,7 +79,7 @@ fn with_number(
     Ok(out)
 }
 
-//// Whether the marks make an exchange at the corner.
+/// Whether the marks make an exchange at the corner.
 pub fn is_exchange(lines: &[Option<Inside>], step: Step) -> bool
     requires enter { step.enter.at < length lines.now }
     requires leave { step.leave.at < length lines.now }
@@ -93,7 +93,7 @@ pub fn is_exchange(lines: &[Option<Inside>], step: Step) -> bool
     }
 }
 
-// Whether the leaving line is inside with another mark than the entering one, or moves with its line.
+// Whether the leaving line's inside mark isn't the entering one, or moves with its line.
 fn may_enter(inside: &Inside, step: Step) -> bool
     requires enter { step.enter.at < length inside.now.sum.by.items }
     ensures turn { step.enter.at ≡ step.leave.at → IsTrue result ↔ (step.enter.side ≢ inside.now.side) }
@@ -131,7 +131,6 @@ pub fn number_of(by: &[i64], at: usize) -> i64
     by[at]
 }
 
-// Whether the number is below 0.
 fn is_negative(number: i64) -> bool
     ensures below { result ≡ true → number <ℤ pos 0 }
     ensures above { result ≡ false → pos 0 ≤ℤ number }
@@ -179,7 +178,8 @@ fn widened(alloc: Global, numbers: &[i64]) -> Result<Vec<i128>, OutOfMemory>
     Ok(out)
 }
 
-/// The numbers of an inside line's sum after an exchange of two lines: the entering line's is put in.
+/// The numbers of an inside line's sum after an exchange of two lines: the entering line's equation is
+/// substituted.
 pub fn carried(alloc: Global, pivot: &Pivot, sum: &Sum) -> Result<Wide, OutOfMemory>
     requires enter { pivot.now.step.enter.at < length sum.now.by.items }
     requires pivot { AreFitting pivot.now.size pivot.now.by.items }
@@ -245,7 +245,7 @@ pub fn sum_of(numbers: Lowest, value: Frac) -> Sum
     }
 }
 
-// The entering line's sum after an exchange of two lines, where its deviation's value is `enters`.
+// The entering line's sum after an exchange of two lines. Its deviation has the value `enters`.
 fn entering_sum(alloc: Global, pivot: &Pivot, enters: Frac) -> Result<Sum, SumStop>
     requires above { pos 0 <ℤ pivot.now.size }
     requires fits { AreFitting pivot.now.size pivot.now.by.items }
@@ -307,7 +307,7 @@ fn exchanged_line(
     Ok(Some(Inside { side, sum: next }))
 }
 
-// Whether an exchange of two lines may change what is kept of the line at a place.
+// Whether an exchange of two lines may change the kept line at a place.
 fn is_touched(pivot: &Pivot, old: &Option<Inside>, at: usize) -> bool
     requires enter { pivot.now.step.enter.at < length pivot.now.by.items }
     requires sized { IsSizedLine (length pivot.now.by.items) old.now }
@@ -322,8 +322,8 @@ fn is_touched(pivot: &Pivot, old: &Option<Inside>, at: usize) -> bool
     }
 }
 
-// The lines after an exchange of two lines, where the entering line's deviation has the value `enters`: those
-// that the exchange doesn't touch stay as they are.
+// The lines after an exchange of two lines, in which the entering line's deviation has the value `enters`.
+// Lines that the exchange doesn't touch stay as they are.
 fn exchanged_lines(
     alloc: Global,
     pivot: &Pivot,
@@ -349,7 +349,6 @@ fn exchanged_lines(
     Ok(out)
 }
 
-// Whether both marks are of one line.
 fn is_turn(step: Step) -> bool
     ensures { IsTrue result ↔ (step.enter.at ≡ step.leave.at) }
 {
@@ -364,7 +363,7 @@ fn stands(by: &[i64], at: usize) -> bool
     by[at] != 0
 }
 
-/// The leaving line's equation, solved for the entering line. Unfit where that has no number there.
+/// The leaving line's equation, solved for the entering line. It is unfit if that line has no number there.
 pub fn solved_from(alloc: Global, leaving: &Sum, step: Step) -> Result<Pivot, SumStop>
     requires enter { step.enter.at < length leaving.now.by.items }
     requires sized { IsSized (length leaving.now.by.items) leaving.now }

@@ -48,7 +48,7 @@ fn raised(numbers: Vec<i64>, at: usize, number: i64) -> Vec<i64>
     out
 }
 
-// The sum with one term more, or that does not fit.
+// The sum with one more term, if that fits.
 fn with_term(p: &Problem, sum: Terms, term: Term) -> Result<Terms, SumStop>
     requires count { length sum.by.items ≡ line_count p.now }
     requires small { HaveRoom sum.by.items }
@@ -78,7 +78,7 @@ pub fn zeros(alloc: Global, count: usize) -> Result<Vec<i64>, OutOfMemory>
     Ok(out)
 }
 
-// The sum of a row's terms, or a sum of its first ones does not fit.
+// The sum of a row's terms, unless the sum of its first terms, for some number of them, does not fit.
 fn terms_of(alloc: Global, p: &Problem, r: &Row) -> Result<Terms, SumStop>
     requires { IsRowOf p.now r.now }
     ensures sum { IfOk result (λ sum. IsTermsSum p.now r.now (length r.now.terms) sum.by.items sum.value) }
@@ -94,8 +94,8 @@ fn terms_of(alloc: Global, p: &Problem, r: &Row) -> Result<Terms, SumStop>
     Ok(sum)
 }
 
-/// A row's sum at the corner where the route begins, or one of its first terms there does not fit, or the
-/// whole sum less the constant.
+/// A row's sum at the corner where the route begins. It is unfit if the sum of its first terms, for some
+/// number of them, does not fit there, or the whole sum less the constant.
 pub fn first_sum(alloc: Global, p: &Problem, r: &Row) -> Result<Sum, SumStop>
     requires { IsRowOf p.now r.now }
     ensures sum { IfOk result (IsSumOf p.now (over_marks p.now) (Held r.now.id)) }
@@ -140,7 +140,8 @@ pub fn with_stays(
     Ok(out)
 }
 
-/// The lines of the corner where the route begins, or a sum of some row's first terms does not fit there.
+/// The lines of the corner where the route begins, unless the sum of some row's first terms does not fit
+/// there.
 pub fn first_lines(alloc: Global, p: &Problem) -> Result<Vec<Option<Inside>>, SumStop>
     ensures sized { IfOk result (λ lines. AreSized lines.items) }
     ensures count { IfOk result (λ lines. length lines.items ≡ line_count p.now) }

@@ -18,13 +18,13 @@ pub fn entering_is_equation()
     ensures { EnteringIsEquation }
 {}
 
-/// A line's sum with the pivot put in for the entering line's deviation, in lowest terms, is its equation at
-/// the next corner.
+/// A line's sum with the pivot substituted for the entering line's deviation, in lowest terms, is its
+/// equation at the next corner.
 pub fn carried_is_equation()
     ensures { CarriedIsEquation }
 {}
 
-/// Where no lowest terms of a list of numbers fit, those of the line's sum do not.
+/// If no lowest terms of a list of numbers fit, those of the line's sum do not.
 pub fn unfit_list_is_unfit()
     ensures { UnfitListIsUnfit }
 {}
@@ -39,12 +39,12 @@ pub fn solved_is_pivot()
     ensures { SolvedIsPivot }
 {}
 
-/// Where the two marks of a line are exchanged, the equations are as before.
+/// If the two marks of a line are exchanged, the equations are as before.
 pub fn turned_lines_are()
     ensures { TurnedLinesAre }
 {}
 
-/// No corner of a path comes twice exactly where no marks by lines do.
+/// No corner of a path comes twice exactly if no marks by lines do.
 pub fn apart_by_sides()
     ensures { ApartBySides }
 {}
@@ -54,17 +54,17 @@ pub fn begins_there()
     ensures { BeginsThere }
 {}
 
-/// An entering line that does not stand in the leaving line's equation makes no exchange.
+/// An entering line without a number in the leaving line's equation makes no exchange.
 pub fn exchange_needs_number()
     ensures { ExchangeNeedsNumber }
 {}
 
-/// Where no inside mark can give way to one of some marks, these are no corner.
+/// If no inside mark can give way to any of some marks, these are no corner.
 pub fn none_gives_way()
     ensures { NoneGivesWay }
 {}
 
-/// Nor are marks among which there are both of a line.
+/// Marks that include both marks of a line are no corner.
 pub fn one_mark_of_line()
     ensures { OneMarkOfLine }
 {}

@@ -1,13 +1,13 @@
 //! A corner's lines in whole numbers, for a checker of paths that shares no code with the engine.
 //!
-//! What each corner's lines are is kept exactly; what levels cost there is kept in `path_levels`, what fits
-//! where not all has to fit is asked of `path_fits`, and `path_claims` makes the checker's route and answers.
+//! A corner's lines are kept exactly. `path_levels` keeps the costs of levels, `path_fits` says what fits at
+//! corners where not everything has to, and `path_claims` makes the checker's route and its answers.
 //!
-//! What the kept lines of a corner keep: one `Option<Inside>` a line, None of a line that is outside, else
-//! which of its marks is inside and the equation of its deviation, in whole numbers without a common factor,
-//! each below 2^42 in size. [`first_lines`] are those where the over marks of the held rows are inside.
-//! [`is_exchange`] is exact; [`after_exchange`] gives the next corner's lines, or something doesn't fit
-//! there.
+//! The kept lines of a corner are one `Option<Inside>` a line. It is None if the line is outside. Otherwise
+//! it says which of the line's marks is inside, and has the equation of the line's deviation in whole numbers
+//! without a common factor, each below 2^42 in size. In [`first_lines`] the over marks of the held rows are
+//! inside. [`is_exchange`] is exact. [`after_exchange`] gives the next corner's lines, or says that something
+//! does not fit there.
 //!
 //! ```
 //! // a row 1: attribute 1 is at least 5; there its stay gives way to the row's over mark
@@ -18,17 +18,17 @@
 //! }
 //! ```
 //!
-//! Linear programming's words: the marks inside are the basis, each of them the slack or the surplus
-//! variable of its line, and the others are 0; the equation of an inside line is a row of the tableau; an
-//! exchange is a pivot. No ratio test is made here, and no reduced cost is kept.
+//! Linear programming's words: the marks inside are the basis, each of them the slack or the surplus variable
+//! of its line, and the others are 0. The equation of an inside line is a row of the tableau, and an exchange
+//! is a pivot. No ratio test is made here, and no reduced cost is kept.
 //!
-//! The laws, each the contract of a function that does nothing, say why these numbers are the next corner's
-//! equations, that a route may begin where it does, and why a set of marks to which no inside mark gives way
-//! is no corner.
+//! The laws, each the contract of a function that does nothing, say that these numbers are the next corner's
+//! equations, that a route may begin where it does, and that marks to which no inside mark gives way are no
+//! corner.
 //!
 //! In reading order: `spots` (marks by place), `table` (a corner's lines), `stop` (why a sum isn't made),
 //! `numbers` (lowest terms), `exchange`, `signs` (of values), `first` (the lines where a route begins),
-//! `laws`, `costs` (what a line costs).
+//! `laws`, `costs` (the costs of a line's deviations).
 #![tactic(auto)]
 
 mod costs;

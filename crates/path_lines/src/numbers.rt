@@ -13,21 +13,20 @@ use frac_core::{Frac, OutOfMemory, PART_BOUND, Stop, Unfit, cmp_wide, gcd, quoti
 use std::alloc::Global;
 use std::cmp::Ordering;
 
-/// A number above 0 and others, whose ratios are meant.
+/// A number above 0 and others. Only their ratios matter.
 #[derive(Drop)]
 pub struct Wide {
     pub own: i128,
     pub by: Vec<i128>,
 }
 
-/// The same in lowest terms, where all of them fit.
+/// The same in lowest terms. All of them fit.
 #[derive(Drop)]
 pub struct Lowest {
     pub own: i64,
     pub by: Vec<i64>,
 }
 
-// The greatest common divisor.
 fn common_divisor(own: i128, by: &[i128]) -> u128
     requires { pos 0 <ℤ own }
     ensures above { 0 < result }
@@ -45,7 +44,7 @@ fn common_divisor(own: i128, by: &[i128]) -> u128
     divisor
 }
 
-// The same as a signed number.
+// The greatest common divisor, as a signed number.
 fn divisor_of(own: i128, by: &[i128]) -> i128
     requires { pos 0 <ℤ own }
     ensures { IsCommonDivisor own by.now result }
@@ -53,7 +52,7 @@ fn divisor_of(own: i128, by: &[i128]) -> i128
     common_divisor(own, by) as i128
 }
 
-// The quotient, where it fits.
+// The quotient, if it fits.
 fn fitting_quotient(number: i128, divisor: i128) -> Option<i64>
     requires above { pos 0 <ℤ divisor }
     requires divides { unsigned_abs divisor ∣ unsigned_abs number }
@@ -102,7 +101,6 @@ pub fn in_lowest_terms(alloc: Global, wide: &Wide) -> Result<Lowest, SumStop>
     Ok(Lowest { own, by })
 }
 
-// The product.
 fn product(k: i128, by: i64) -> i128
     requires { IsSmallProduct k by }
     ensures value { result ≡ k *ℤ by }
@@ -123,7 +121,7 @@ fn both(k: i128, left: i64, m: i128, right: i64) -> i128
     product(k, left) + product(m, right)
 }
 
-/// `k` times the one list and `m` times the other.
+/// `k` times `left` and `m` times `right`.
 pub fn combined(
     alloc: Global,
     k: i128,
@@ -145,7 +143,7 @@ pub fn combined(
     Ok(out)
 }
 
-/// A factor `times / over`, whose denominator is above 0.
+/// A factor `times / over`. Its denominator is above 0.
 #[derive(Clone, Copy)]
 pub struct Ratio {
     pub times: i128,

@@ -24,7 +24,7 @@ pub fn is_on_side(sign: Ordering, side: Side) -> bool
     }
 }
 
-/// Whether the value of the line's inside mark is not negative, where it has one.
+/// Whether the line has no inside mark, or one whose value is not negative.
 pub fn is_up(line: &Option<Inside>) -> bool
     ensures { (p : Problem) (at : List Mark) (name : RowName) → IsThere p at → IsLineAt p at name line.now
         → IsTrue result ↔ IsUp p at name }
@@ -35,7 +35,7 @@ pub fn is_up(line: &Option<Inside>) -> bool
     }
 }
 
-/// Whether the value of the line's inside mark is negative, where it has one.
+/// Whether the line has an inside mark whose value is negative.
 pub fn is_down(line: &Option<Inside>) -> bool
     ensures { (p : Problem) (at : List Mark) (mark : Mark) → IsThere p at → IsLineAt p at mark.row line.now
         → IsIn (place mark) at → IsTrue result ↔ HasNegativeValue p at mark }
@@ -43,7 +43,6 @@ pub fn is_down(line: &Option<Inside>) -> bool
     !is_up(line)
 }
 
-// The sign of a fraction.
 fn sign(value: Frac) -> Ordering
     ensures { result ≡ int_cmp value.num (pos 0) }
 {

@@ -5,20 +5,21 @@ use Rattle.problem_reading.specs.Stops.{bad_line}
 use Rattle.claim_writing.specs.ClaimLines.{claim_lines}
 use Rattle.claim_text.specs.Claims.ClaimTexts.{IsWritten, Reads, IsClaimStop}
 
--- the claim is one that is written, and these are its lines
+-- the claim can be written, and these are its lines
 abbrev pub AreLinesOf : List (List ℕ) → Claim → Type 0
 AreLinesOf all c = IsWritten c × (all ≡ claim_lines c)
 
--- such lines begin so
+-- these lines are the first of a claim's lines
 abbrev pub IsFront : List (List ℕ) → Type 0
 IsFront front = (c : Claim) × IsWritten c × ((rest : List (List ℕ)) × (claim_lines c ≡ front ++ rest))
 
--- with the next of these lines the front is none, or where there is no line more it isn't all of a claim
+-- with the next of these lines they are the first of no claim's lines, or there is no next line and they are
+-- no whole claim
 abbrev pub LeavesForm : List (List ℕ) → List (List ℕ) → Type 0
 LeavesForm front [] = (c : Claim) → AreLinesOf front c → ⊥
 LeavesForm front (line ∷ more) = IsFront (front ++ line ∷ []) → ⊥
 
--- the n-th line, counted from 1, is the first outside the form, or the form asks for it and it isn't there
+-- the n-th line, counted from 1, is the first outside the form, or it is missing and the form asks for it
 pub record IsFirstOutside (all : List (List ℕ)) (n : ℕ) : Type 0 where
   pub before : List (List ℕ)
   pub after : List (List ℕ)
@@ -27,8 +28,8 @@ pub record IsFirstOutside (all : List (List ℕ)) (n : ℕ) : Type 0 where
   pub front : IsFront before
   pub leaves : LeavesForm before after
 
--- what the reader of claims reads is the form, and where it stops is the first line outside, which is one
--- line, and is there where the lines are no claim alone
+-- the reader reads exactly the claims of the form, and stops exactly at the first line outside it. There is
+-- at most one such line, and none in a claim
 pub record ClaimsAreTheForm : Type 0 where
   pub read : (all : List (List ℕ)) (c : Claim) → Reads all c → AreLinesOf all c
   pub form : (all : List (List ℕ)) (c : Claim) → AreLinesOf all c → Reads all c

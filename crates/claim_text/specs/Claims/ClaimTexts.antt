@@ -1,4 +1,4 @@
--- Which texts are claims, and where a text stops to be one.
+-- Which texts are claims, and the line at which a text stops being one.
 use Rattle.std.specs.Prelude.{◌≡◌, ℕ, ◌+◌, ◌<◌, ◌≤◌, ◌⊎◌, List, [], ◌∷◌, ◌++◌, length, All, AllPairs}
 use Rattle.frac_core.specs.Fraction.{Fraction, IsFitting}
 use Rattle.cert_core.specs.declared.by.By.{By}
@@ -23,7 +23,7 @@ use Rattle.claim_text.specs.Paths.PathForms.{PathDraft, SaysPart, PartMayFollow,
 use Rattle.claim_text.specs.Paths.PathForms.{path_of}
 use Rattle.claim_text.specs.Paths.PathForms.{IsPathWritten}
 
--- what a line says by itself
+-- the content of a line by itself
 abbrev pub Says : List ℕ → ClaimLine → Type 0
 Says line (OfValue v) = IsValue v × (words line ≡ value_words v)
 Says line OfBest = words line ≡ best_words
@@ -35,15 +35,15 @@ Says line (OfPart part) = SaysPart line part
 
 -- ---- reading line by line
 
--- what was read: values, levels that have ended, and the multipliers of the level that is open or of a
--- conflict; a path stands in its stage
+-- the parts read so far: values, levels that have ended, and the multipliers of the open level or of a
+-- conflict; a path is in its stage
 pub record Draft : Type 0 where
   pub stage : Stage
   pub values : List (ℕ × Fraction)
   pub levels : List BestLevel
   pub bys : List By
 
--- what was read before the first line
+-- nothing, before the first line
 abbrev pub nothing_read : Draft
 nothing_read = record { stage = Values; values = []; levels = []; bys = [] }
 
@@ -71,7 +71,7 @@ TakesBys (Bys l) = Unit {0}
 TakesBys Conflict = Unit {0}
 TakesBys (Path d) = ⊥
 
--- a line that says this may follow what was read
+-- a line with this content may follow the parts read so far
 abbrev pub MayFollow : Draft → ClaimLine → Type 0
 MayFollow old (OfValue v) = (old.stage ≡ Values) × All (λ u. u.0 < v.0) old.values
 MayFollow old OfBest = old.stage ≡ Values
@@ -90,7 +90,7 @@ stage_with (Bys l) part = Bys l
 stage_with Conflict part = Conflict
 stage_with (Path d) part = Path (with_part d part)
 
--- what was read, with what a line says
+-- the parts read so far, with the content of a line
 abbrev pub with_line : Draft → ClaimLine → Draft
 with_line old (OfValue v) = record {
   stage = old.stage;
@@ -132,19 +132,19 @@ with_line old (OfPart part) = record {
   bys = old.bys;
 }
 
--- after what was read before the line comes this
+-- the draft before and after the line
 pub record Step (old : Draft) (line : List ℕ) (new : Draft) : Type 0 where
   pub item : ClaimLine
   pub says : Says line item
   pub may : MayFollow old item
   pub is : new ≡ with_line old item
 
--- the lines, one after the other, lead from what was read before them to this
+-- the lines, one after the other, lead from the old draft to the new one
 abbrev pub ReadFrom : Draft → List (List ℕ) → Draft → Type 0
 ReadFrom old [] new = new ≡ old
 ReadFrom old (line ∷ more) new = (mid : Draft) × Step old line mid × ReadFrom mid more new
 
--- what was read is all of the claim
+-- the draft is all of the claim
 abbrev pub Ends : Draft → Claim → Type 0
 Ends d (IsBest values best) = TakesLevels d.stage × (values ≡ d.values)
     × (best ≡ closed d.stage d.levels d.bys)
@@ -152,7 +152,7 @@ Ends d (IsConflict bys) = (d.stage ≡ Conflict) × (bys ≡ d.bys)
 Ends d (IsPath path unfit) = (read : PathDraft) × (d.stage ≡ Path read) × (path ≡ path_of read)
     × (unfit ≡ read.unfit)
 
--- the lines say the claim
+-- the lines have this claim
 abbrev pub Reads : List (List ℕ) → Claim → Type 0
 Reads all claim = (last : Draft) × ReadFrom nothing_read all last × Ends last claim
 
@@ -163,37 +163,38 @@ pub record EndsEarly (all : List (List ℕ)) (n : ℕ) : Type 0 where
   pub reads : ReadFrom nothing_read all so_far
   pub waits : so_far.stage ≡ Values
 
--- where the text stops to be a claim, unless memory was wanting
+-- the line at which the text stops being a claim, unless memory ran out
 abbrev pub IsClaimStop : List (List ℕ) → ReadStop → Type 0
 IsClaimStop all (Refused bad) = IsFirstBad (ReadFrom nothing_read) Step all bad.0 ⊎ EndsEarly all bad.0
 IsClaimStop all OutOfMemory = Unit {0}
 
--- ---- what the reader of lines tells
+-- ---- the result of the reader of lines
 
 -- the lines lead to this draft, and there are so many
 pub record IsRead (all : List (List ℕ)) (draft : Draft) (count : ℕ) : Type 0 where
   pub reads : ReadFrom nothing_read all draft
   pub count_is : count ≡ length all
 
--- the first line that may not follow those before it, unless memory was wanting
+-- the first line that may not follow those before it, unless memory ran out
 abbrev pub LinesStopAt : List (List ℕ) → ReadStop → Type 0
 LinesStopAt all (Refused bad) = IsFirstBad (ReadFrom nothing_read) Step all bad.0
 LinesStopAt all OutOfMemory = Unit {0}
 
--- ---- what a draft keeps
+-- ---- the invariant of a draft
 
--- rows with multipliers as they are read
+-- rows with multipliers, as a draft has them
 pub record AreRead (bys : List By) : Type 0 where
   pub each : All IsBy bys
   pub order : AllPairs (λ a b. IsRowBefore a.row b.row) bys
 
--- a level as it is read: it may be named, its scale fits, and its rows with multipliers are as they are read
+-- a level, as a draft has it: it may be named, its scale fits, and its rows with multipliers are as a draft
+-- has them
 pub record IsLevelRead (l : BestLevel) : Type 0 where
   pub level : IsLevelName l.level
   pub scale : IsFitting l.scale
   pub by : AreRead l.by
 
--- what a stage keeps: the open level may be named and its scale fits; the path is one that is written
+-- the invariant of a stage: the open level may be named and its scale fits; the path can be written
 abbrev pub IsStage : Stage → Type 0
 IsStage Values = Unit {0}
 IsStage Levels = Unit {0}
@@ -201,7 +202,7 @@ IsStage (Bys l) = IsLevelLine l
 IsStage Conflict = Unit {0}
 IsStage (Path d) = IsPathWritten (path_of d) d.unfit
 
--- what was read has the order of a claim: values by rising attribute, and levels and rows as they are read
+-- the draft has the order of a claim: values by rising attribute, and levels and rows as a draft has them
 pub record IsDraft (d : Draft) : Type 0 where
   pub stage : IsStage d.stage
   pub values : AllPairs (λ u v. u.0 < v.0) d.values
@@ -209,7 +210,7 @@ pub record IsDraft (d : Draft) : Type 0 where
   pub level_order : AllPairs (λ k l. IsLevelBefore k.level l.level) (closed d.stage d.levels d.bys)
   pub bys : AreRead d.bys
 
--- ---- the claims that are written so that they are read back
+-- ---- the claims that can be written and read back
 
 -- values by rising attribute, and levels in their order, all within their limits
 pub record IsBestWritten (pairs : List (ℕ × Fraction)) (best : List BestLevel) : Type 0 where

@@ -12,7 +12,7 @@ use Rattle.claim_text.specs.declared.claim.draft.Stage.TheVariants.{Values, Leve
 use Rattle.claim_text.specs.Claims.ClaimTexts.{Draft, closed}
 use Rattle.claim_writing.specs.Names.{IsRowBefore, IsLevelBefore}
 
--- a stay of the attribute may stand behind all of these exactly where the attribute is no key
+-- a stay of the attribute may follow all of these exactly if the attribute is no key
 abbrev pub AreKeys : {A : Type 0} → (A → ℕ → Type 0) → List A → BTreeMap ℕ ℕ → Type 0
 AreKeys MayPrecede xs keys = (attr : ℕ) → MatchOption (get nat_cmp keys attr)
     (All (λ x. MayPrecede x attr) xs) (λ _. All (λ x. MayPrecede x attr) xs → ⊥)
@@ -21,7 +21,7 @@ AreKeys MayPrecede xs keys = (attr : ℕ) → MatchOption (get nat_cmp keys attr
 abbrev pub AreRowKeys : List RowName → BTreeMap ℕ ℕ → Type 0
 AreRowKeys rows keys = AreKeys (λ row attr. IsRowBefore row (StayRow attr)) rows keys
 
--- the row may stand behind rows of which this is the last, where the stays among them are the keys
+-- the row may follow rows whose last one this is, if the stays among them are the keys
 abbrev pub MayStandBehind : BTreeMap ℕ ℕ → RowName → RowName → Type 0
 MayStandBehind keys last (Held id) = IsRowBefore last (Held id)
 MayStandBehind keys last (StayRow attr) = get nat_cmp keys attr ≡ None
@@ -46,7 +46,7 @@ marked_rows (Bys l) = []
 marked_rows Conflict = []
 marked_rows (Path d) = map (λ m. m.row) d.corner
 
--- the stays that were named: by multipliers of the open list, by a path's first corner, and by levels
+-- the stays named so far: by multipliers of the open list, by a path's first corner, and by levels
 pub record AreSeen (d : Draft) (seen : Seen) : Type 0 where
   pub rows : AreRowKeys (rows_of d) seen.rows
   pub marks : AreRowKeys (marked_rows d.stage) seen.marks

@@ -16,7 +16,7 @@ pub record SomePathsAreInside : Type 0 where
   pub rows : AreClaimLines (codes "path primal" ∷ codes "unfit level 0 rows 1" ∷ [])
 
 -- marks come by row number, stays last, no row twice, before the exchanges; the quantity is the last line;
--- parts are counted from 1 to 2^32 - 1, and terms are of marks; what stands before a printed path is outside
+-- parts are counted from 1 to 2^32 - 1, and terms are of marks; the lines before a printed path are outside
 pub record SomePathsAreOutside : Type 0 where
   pub falling : IsFirstOutside (codes "path primal" ∷ codes "in 2+" ∷ codes "in 1+" ∷ []) 3
   pub same_row : IsFirstOutside (codes "path primal" ∷ codes "in 1+" ∷ codes "in 1-" ∷ []) 3

@@ -20,7 +20,8 @@ use std::collections::BTreeMap;
 use std::marker::Model;
 use std::mem;
 
-/// Which lines may come: values, a first level, multipliers of a level or of a conflict, parts of a path.
+/// The stage of a claim: which lines may follow. Values, a first level, multipliers of a level or of a
+/// conflict, or parts of a path.
 #[derive(Drop)]
 pub(crate) enum Stage {
     Values,
@@ -46,7 +47,7 @@ impl Model for EndedLevel {
     ghost view = { λ l. record { level = l.level; scale = l.scale; by = l.by.items } };
 }
 
-/// What the lines so far say.
+/// The parts of a claim in the lines read so far.
 #[derive(Drop)]
 pub(crate) struct ClaimDraft {
     pub(crate) stage: Stage,
@@ -64,7 +65,7 @@ impl Model for ClaimDraft {
         record { stage = d.stage; values = d.values.items; levels = d.levels.items; bys = d.bys.items } };
 }
 
-// Whether the attribute is above those of all these values.
+// Whether the attribute is above the attributes of all these values.
 fn is_above(values: &[(u32, Frac)], attr: u32) -> bool
     requires { AreRising values.now }
     ensures { IsTrue result ↔ All (λ v. v.0 < attr) values.now }
@@ -101,7 +102,6 @@ fn level_of(line: &LevelLine) -> Level
     line.level
 }
 
-// The last level.
 fn last_of(levels: &[EndedLevel]) -> Option<Level>
     ensures none { IfNone result (levels.now ≡ []) }
     ensures some { IfSome result (λ last. (front : List Level)
@@ -138,7 +138,7 @@ impl ClaimDraft {
     ghost use Rattle.claim_writing.specs.Names.{IsRowBefore, IsLevelBefore};
     ghost use Rattle.claim_text.specs.Paths.PathForms as forms;
 
-    /// What was read before the first line.
+    /// The draft before the first line.
     pub(crate) fn new(alloc: Global) -> ClaimDraft
         ensures { result ≡ nothing_read }
     {
@@ -190,7 +190,7 @@ impl ClaimDraft {
         self.takes_bys() && are_rows_before(keys, &self.bys, row)
     }
 
-    // The last level, which is the open one where one is.
+    // The last level, which is the open one if a level is open.
     fn last_level(&self) -> Option<Level>
         ensures none { IfNone result (levels_of self.now ≡ []) }
         ensures some { IfSome result (λ last. (front : List level.Level)
@@ -202,7 +202,7 @@ impl ClaimDraft {
         }
     }
 
-    // Whether the level may stand behind all, whose stays are the keys.
+    // Whether the level may follow all levels so far, whose stays are the keys.
     fn levels_are_before(&self, keys: &BTreeMap<u32, u32>, level: Level) -> bool
         requires order { AllPairs (λ k l. IsLevelBefore k.level l.level)
             (closed self.now.stage self.now.levels self.now.bys) }
@@ -292,7 +292,7 @@ impl ClaimDraft {
         Ok(())
     }
 
-    // Adds what a line says; whether it may follow isn't asked here.
+    // Adds a line. The caller owes that it may follow.
     fn put(&mut self, alloc: Global, line: ClaimLine) -> Result<(), OutOfMemory>
         ensures { IfOk result (λ _. self.new ≡ with_line self.old line) }
     {
@@ -311,7 +311,7 @@ impl ClaimDraft {
         Ok(())
     }
 
-    /// Adds what the line says. The answer is false where the line may not follow those before it.
+    /// Adds the line. The answer is false if the line may not follow those before it.
     pub(crate) fn take_line(
         &mut self,
         alloc: Global,
@@ -369,7 +369,7 @@ impl ClaimDraft {
         Ok(Claim::IsBest { values, best })
     }
 
-    // The claim that was read, where more than values was.
+    // The claim, unless only values have been read.
     fn claim(&mut self, alloc: Global) -> Result<Claim, OutOfMemory>
         requires draft { IsDraft self.old }
         requires more { self.old.stage ≡ Stage.Values → ⊥ }
@@ -384,7 +384,7 @@ impl ClaimDraft {
         Ok(Claim::IsConflict(self.conflict(alloc)?))
     }
 
-    /// The claim that was read, if what must stand in one was read.
+    /// The claim, if the lines say which claim it is.
     pub(crate) fn finish(&mut self, alloc: Global) -> Result<Option<Claim>, OutOfMemory>
         requires { IsDraft self.old }
         ensures some { IfOk result (λ found. IfSome found (Ends self.old)) }

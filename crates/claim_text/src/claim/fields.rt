@@ -13,7 +13,7 @@ ghost use Rattle.claim_writing.specs.Names.{row_word, level_word, IsRowName, IsL
 use problem_core::{Level, Mark, NUMBER_LIMIT, REQUIRED, RowName, Side};
 use problem_reading::{Words, integer, natural};
 
-// What follows an `s`.
+// The word after an `s`.
 fn after_s(word: &[u8]) -> Option<&[u8]>
     ensures some { IfSome result (λ rest. word.now ≡ lower_s ∷ rest.now) }
     ensures none { IfNone result ((rest : List ℕ) → word.now ≡ lower_s ∷ rest → ⊥) }
@@ -58,7 +58,7 @@ pub(crate) fn level_name(word: &[u8]) -> Option<Level>
     }
 }
 
-// What stands before the last byte, and that byte.
+// The bytes before the last one, and that byte.
 fn before_last(word: &[u8]) -> Option<(&[u8], u8)>
     ensures some { IfSome result (λ p. word.now ≡ p.0.now ++ p.1 ∷ []) }
     ensures none { IfNone result (word.now ≡ []) }

@@ -17,7 +17,7 @@ use frac_core::Frac;
 use problem_core::NUMBER_LIMIT;
 use problem_reading::{FITTING, Words, next_fraction, next_is, next_number};
 
-// The attribute and the value that a line says.
+// The attribute and the value in a line.
 fn read_value(line: &[u8]) -> Option<(u32, Frac)>
     ensures some { IfSome result (λ v. IsValue v × (words line.now ≡ value_words v)) }
     ensures none { IfNone result ((v : ℕ × Fraction) → IsValue v → words line.now ≡ value_words v → ⊥) }
@@ -34,7 +34,7 @@ fn read_value(line: &[u8]) -> Option<(u32, Frac)>
     }
 }
 
-// The level and the scale that a line says.
+// The level and the scale in a line.
 fn read_level(line: &[u8]) -> Option<LevelLine>
     ensures some { IfSome result (λ l. IsLevelLine l × (words line.now ≡ level_words l)) }
     ensures none { IfNone result ((l : LevelLine) → IsLevelLine l → words line.now ≡ level_words l → ⊥) }
@@ -51,7 +51,7 @@ fn read_level(line: &[u8]) -> Option<LevelLine>
     }
 }
 
-// The row and the multiplier that a line says.
+// The row and the multiplier in a line.
 fn read_by(line: &[u8]) -> Option<By>
     ensures some { IfSome result (λ b. IsBy b × (words line.now ≡ by_words b)) }
     ensures none { IfNone result ((b : By) → IsBy b → words line.now ≡ by_words b → ⊥) }
@@ -79,7 +79,7 @@ fn is_word(line: &[u8], word: &[u8]) -> bool
     next_is(&mut words, word) && words.next().is_none()
 }
 
-/// What a line of a claim says.
+/// A line of a claim.
 #[derive(Clone, Copy)]
 pub(crate) enum ClaimLine {
     OfValue((u32, Frac)),
@@ -91,7 +91,7 @@ pub(crate) enum ClaimLine {
     OfPart(PathLine),
 }
 
-/// What a line of a claim says, if it is in the form.
+/// The line of a claim, if it is in the form.
 pub(crate) fn read_claim_line(line: &[u8]) -> Option<ClaimLine>
     ensures some { IfSome result (Says line.now) }
     ensures none { IfNone result ((i : item.ClaimLine) → Says line.now i → ⊥) }

@@ -7,7 +7,7 @@ use cert_core::By;
 use problem_core::{Level, Mark, RowName};
 use std::collections::BTreeMap;
 
-// Whether the second row may stand behind the first.
+// Whether the second row may follow the first.
 fn is_row_before(a: RowName, b: RowName) -> bool
     ensures { IsTrue result ↔ IsRowBefore a b }
 {
@@ -19,7 +19,7 @@ fn is_row_before(a: RowName, b: RowName) -> bool
     }
 }
 
-/// Whether the second level may stand behind the first.
+/// Whether the second level may follow the first.
 pub(crate) fn is_level_before(a: Level, b: Level) -> bool
     ensures { IsTrue result ↔ IsLevelBefore a b }
 {
@@ -31,7 +31,7 @@ pub(crate) fn is_level_before(a: Level, b: Level) -> bool
     }
 }
 
-// Whether the row may stand behind rows of which this is the last, and whose stays are the keys.
+// Whether the row may follow rows whose last one this is, and whose stays are the keys.
 fn may_stand_behind(keys: &BTreeMap<u32, u32>, last: RowName, row: RowName) -> bool
     ensures { IsTrue result ↔ MayStandBehind keys.now last row }
 {
@@ -41,7 +41,7 @@ fn may_stand_behind(keys: &BTreeMap<u32, u32>, last: RowName, row: RowName) -> b
     }
 }
 
-/// Whether the row may stand behind all these, whose stays are the keys.
+/// Whether the row may follow all these, whose stays are the keys.
 pub(crate) fn are_rows_before(keys: &BTreeMap<u32, u32>, bys: &[By], row: RowName) -> bool
     requires order { AllPairs (λ a b. IsRowBefore a.row b.row) bys.now }
     requires keys { AreRowKeys (map (λ b. b.row) bys.now) keys.now }
@@ -53,7 +53,7 @@ pub(crate) fn are_rows_before(keys: &BTreeMap<u32, u32>, bys: &[By], row: RowNam
     may_stand_behind(keys, bys[bys.len() - 1].row, row)
 }
 
-/// Whether the row may stand behind those of all these marks, whose stays are the keys.
+/// Whether the row may follow the rows of all these marks, whose stays are the keys.
 pub(crate) fn are_marks_before(keys: &BTreeMap<u32, u32>, marks: &[Mark], row: RowName) -> bool
     requires order { AllPairs (λ m n. IsRowBefore m.row n.row) marks.now }
     requires keys { AreRowKeys (map (λ m. m.row) marks.now) keys.now }

@@ -14,7 +14,7 @@ use std::alloc::Global;
 use std::collections::BTreeMap;
 use std::marker::Model;
 
-/// What the lines so far say of a path.
+/// The parts of a path in the lines read so far.
 #[derive(Drop)]
 pub(crate) struct PathDraft {
     dual: bool,
@@ -36,7 +36,7 @@ impl PathDraft {
     ghost use Rattle.claim_text.specs.Paths.PathForms.{path_begun, path_of, with_part};
     ghost use Rattle.claim_text.specs.Paths.PathForms.{PartMayFollow, IsPathWritten};
 
-    /// A path of which the kind alone was read.
+    /// A path of which only the kind has been read.
     pub(crate) fn new(alloc: Global, dual: bool) -> PathDraft
         ensures { result ≡ path_begun dual }
     {
@@ -48,7 +48,7 @@ impl PathDraft {
         }
     }
 
-    // Whether no quantity was read, which is the last line.
+    // Whether no quantity has been read. A quantity is the last line.
     fn is_open(&self) -> bool
         ensures { IsTrue result ↔ (self.now.unfit ≡ None) }
     {
@@ -64,7 +64,7 @@ impl PathDraft {
         self.swaps.is_empty() && self.is_open() && are_marks_before(keys, &self.corner, row)
     }
 
-    /// Whether the line may follow, where the keys are the stays of the marks that were read.
+    /// Whether the line may follow. The keys are the stays of the marks read so far.
     pub(crate) fn may_follow(&self, keys: &BTreeMap<u32, u32>, line: &PathLine) -> bool
         requires draft { IsPathWritten (path_of self.now) self.now.unfit }
         requires keys { AreRowKeys (map (λ m. m.row) self.now.corner) keys.now }
@@ -76,7 +76,7 @@ impl PathDraft {
         }
     }
 
-    /// Adds what a line says; whether it may follow isn't asked here.
+    /// Adds a line. The caller owes that it may follow.
     pub(crate) fn put(&mut self, line: PathLine) -> Result<(), OutOfMemory>
         ensures { IfOk result (λ _. self.new ≡ with_part self.old line) }
     {
@@ -88,7 +88,7 @@ impl PathDraft {
         Ok(())
     }
 
-    /// The claim of what was read.
+    /// The claim of the path read so far.
     pub(crate) fn claim(&self, alloc: Global) -> Result<Claim, OutOfMemory>
         ensures { IfOk result (λ c. c ≡ IsPath (path_of self.now) self.now.unfit) }
     {

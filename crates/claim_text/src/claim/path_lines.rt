@@ -18,7 +18,7 @@ use cert_core::Swap;
 use problem_core::{Mark, NUMBER_LIMIT, Quantity, What};
 use problem_reading::{Words, natural, next_is, next_number};
 
-/// What a line of a path says, behind the first.
+/// A line of a path after the first.
 #[derive(Clone, Copy)]
 pub(crate) enum PathLine {
     OfIn(Mark),
@@ -26,7 +26,7 @@ pub(crate) enum PathLine {
     OfUnfit(Quantity),
 }
 
-// Whether the kind of a path is that of dual ones.
+// Whether the word is the kind of dual paths, if it is a kind.
 fn is_dual(word: &[u8]) -> Option<bool>
     ensures some { IfSome result (λ dual. word.now ≡ kind_word dual) }
     ensures none { IfNone result ((dual : Bool) → word.now ≡ kind_word dual → ⊥) }
@@ -40,7 +40,7 @@ fn is_dual(word: &[u8]) -> Option<bool>
     }
 }
 
-/// Whether the path is a dual one that begins with the line.
+/// Whether the path is a dual one, if the line is a path's first line.
 pub(crate) fn read_kind(line: &[u8]) -> Option<bool>
     ensures some { IfSome result (λ dual. words line.now ≡ kind_words dual) }
     ensures none { IfNone result ((dual : Bool) → words line.now ≡ kind_words dual → ⊥) }
@@ -56,7 +56,7 @@ pub(crate) fn read_kind(line: &[u8]) -> Option<bool>
     }
 }
 
-// The mark inside that a line says.
+// The inside mark in a line.
 fn read_in(line: &[u8]) -> Option<Mark>
     ensures some { IfSome result (λ m. IsRowName m.row × (words line.now ≡ in_words m)) }
     ensures none { IfNone result ((m : Mark) → IsRowName m.row → words line.now ≡ in_words m → ⊥) }
@@ -72,7 +72,7 @@ fn read_in(line: &[u8]) -> Option<Mark>
     }
 }
 
-// The exchange that a line says.
+// The exchange in a line.
 fn read_swap(line: &[u8]) -> Option<Swap>
     ensures some { IfSome result (λ s. IsSwapName s × (words line.now ≡ swap_words s)) }
     ensures none { IfNone result ((s : corners.Swap) → IsSwapName s → words line.now ≡ swap_words s → ⊥) }
@@ -89,7 +89,7 @@ fn read_swap(line: &[u8]) -> Option<Swap>
     }
 }
 
-// What these two words name.
+// The attribute, mark or level that these two words name.
 fn what_of(kind: &[u8], name: &[u8]) -> Option<What>
     ensures some { IfSome result (λ w. IsWhatName w × (kind.now ∷ name.now ∷ [] ≡ what_words w)) }
     ensures none { IfNone result ((w : what.What) → IsWhatName w
@@ -107,7 +107,7 @@ fn what_of(kind: &[u8], name: &[u8]) -> Option<What>
     }
 }
 
-// A part of what is named: its first terms, rows or changed constants.
+// A partial sum: of first terms, of first rows, or of first changed constants.
 #[derive(Clone, Copy)]
 enum Part {
     Terms,
@@ -130,7 +130,7 @@ fn part_of(word: &[u8]) -> Option<Part>
     }
 }
 
-// The quantity of so many first ones, if what is named has such parts.
+// The partial sum of so many, if the attribute, mark or level has such sums.
 fn of_part(what: What, part: Part, first: u32) -> Option<Quantity>
     requires what { IsWhatName what }
     requires first { IsCount first }
@@ -152,7 +152,7 @@ fn of_part(what: What, part: Part, first: u32) -> Option<Quantity>
     }
 }
 
-// The quantity of these words, which begin with what is named.
+// The quantity of an attribute, mark or level and of the words after it.
 fn quantity_of(what: What, words: &mut Words) -> Option<Quantity>
     requires { IsWhatName what }
     ensures some { IfSome result (λ q. IsQuantityName q
@@ -170,7 +170,7 @@ fn quantity_of(what: What, words: &mut Words) -> Option<Quantity>
     of_part(what, part_of(word)?, first as u32)
 }
 
-// The quantity of which a line says that it doesn't fit.
+// The quantity in a line, which says that it doesn't fit.
 fn read_unfit(line: &[u8]) -> Option<Quantity>
     ensures some { IfSome result (λ q. IsQuantityName q × (words line.now ≡ unfit_words q)) }
     ensures none { IfNone result ((q : quantity.Quantity) → IsQuantityName q
@@ -185,7 +185,7 @@ fn read_unfit(line: &[u8]) -> Option<Quantity>
     quantity_of(what_of(kind, name)?, &mut words)
 }
 
-/// What a line of a path says, if it is in the form.
+/// The line of a path, if it is in the form.
 pub(crate) fn read_path_line(line: &[u8]) -> Option<PathLine>
     ensures some { IfSome result (SaysPart line.now) }
     ensures none { IfNone result ((l : item.PathLine) → SaysPart line.now l → ⊥) }

@@ -16,14 +16,14 @@ use problem_reading::{BadLine, ReadStop};
 use span_text::lines;
 use std::alloc::Global;
 
-// What the lines of a text say, and their count.
+// The draft after the lines of a text, and their count.
 #[derive(Drop)]
 struct ReadLines {
     draft: ClaimDraft,
     count: u32,
 }
 
-// What the lines of the text say.
+// The draft after the lines of the text.
 fn read_lines(alloc: Global, text: &[u8]) -> Result<ReadLines, ReadStop>
     requires { length text.now < TEXT_LIMIT }
     ensures read { IfOk result (λ found. IsRead (lines text.now) found.draft found.count) }
@@ -41,16 +41,16 @@ fn read_lines(alloc: Global, text: &[u8]) -> Result<ReadLines, ReadStop>
     Ok(ReadLines { draft, count })
 }
 
-/// The claim that a text says: values and a certificate, a conflict, or a path.
+/// The claim in a text: values and a certificate, a conflict, or a path.
 ///
-/// `BadLine` is the number of the first line, counted from 1, that may not follow the lines before it, or one
-/// more than the count of lines where the text ends before it is said which claim it is.
+/// `BadLine` has the number of the first line, counted from 1, that may not follow the lines before it. If
+/// the text ends before it says which claim it is, the number is one more than the count of lines.
 pub fn read_claim(alloc: Global, text: &[u8]) -> Result<Claim, ReadStop>
     requires { length text.now < TEXT_LIMIT }
     ensures read { IfOk result (Reads (lines text.now)) }
     ensures stop { IfErr result (IsClaimStop (lines text.now)) }
     ensures few { IfOk result (λ c. HasNoMoreParts c (length text.now)) }
-    // What was written is read.
+    // a written claim is read
     ensures written { (c : claim.Claim) → IsWritten c → text.now ≡ claim_text c
         → MatchResult result (λ d. d ≡ c) (λ stop. stop ≡ OutOfMemory) }
 {

@@ -8,8 +8,8 @@ use problem_core::{Level, RowName};
 use std::alloc::Global;
 use std::collections::BTreeMap;
 
-/// The attributes of the stays that were named: by the multipliers of the open list, by levels, and by the
-/// marks of a path's first corner.
+/// The attributes of the stays named so far: by the multipliers of the open list, by levels, and by the marks
+/// of a path's first corner.
 #[derive(Drop)]
 pub(crate) struct Seen {
     pub(crate) rows: BTreeMap<u32, u32>,
@@ -58,7 +58,7 @@ impl Seen {
     ghost use Rattle.claim_text.specs.Claims.Seen.{AreSeen};
     ghost use Rattle.claim_text.specs.Claims.ClaimTexts.{Draft, MayFollow, nothing_read, with_line};
 
-    /// What was seen before the first line: no stay.
+    /// No stay, before the first line.
     pub(crate) fn new(alloc: Global) -> Seen
         ensures { AreSeen nothing_read result }
     {

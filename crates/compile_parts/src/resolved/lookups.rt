@@ -1,4 +1,4 @@
-// What names and numbers stand for.
+// The meaning of single names and numbers.
 ghost use Rattle.std.specs.Prelude.{◌≡◌, ℕ, ◌*◌, pos, Some, is_some, IfSome, IfNone};
 ghost use Rattle.span_text.specs.declared.limits.TheConstants.{UNIT};
 ghost use Rattle.view_tree.specs.Views.{view_named};
@@ -16,7 +16,7 @@ pub(crate) fn is_view(tree: &Tree, name: &str) -> bool
     tree.find(name).is_some()
 }
 
-/// The rank that this number of thousandths is.
+/// The rank of so many thousandths.
 pub(crate) fn rank_of_thousandths(thousandths: i32) -> Option<u16>
     ensures some { IfSome result (λ r. (thousandths ≡ pos (r * UNIT)) × IsRowRank r) }
     ensures none { IfNone result ((r : ℕ) → thousandths ≡ pos (r * UNIT) → IsRowRank r → ⊥) }
@@ -31,7 +31,7 @@ pub(crate) fn rank_of_thousandths(thousandths: i32) -> Option<u16>
     Some((size / UNIT) as u16)
 }
 
-// The rank that the fraction is.
+// The rank of the fraction.
 fn rank_of_fraction(f: Frac) -> Option<u16>
     ensures some { IfSome result (λ r. (f ≡ record { num = pos r; den = 1 }) × IsRowRank r) }
     ensures none { IfNone result ((r : ℕ) → f ≡ record { num = pos r; den = 1 } → IsRowRank r → ⊥) }
@@ -44,7 +44,7 @@ fn rank_of_fraction(f: Frac) -> Option<u16>
     }
 }
 
-/// The rank that the metric's value is, where the metric is there.
+/// The rank of the metric's value, if there is a metric.
 pub(crate) fn rank_of_metric(value: Option<Frac>) -> Option<u16>
     ensures some { IfSome result (λ r. (value ≡ Some (record { num = pos r; den = 1 })) × IsRowRank r) }
     ensures none { IfNone result ((r : ℕ) → value ≡ Some (record { num = pos r; den = 1 }) → IsRowRank r

@@ -11,7 +11,7 @@ ghost use Rattle.compile_parts.specs.declared.wide.ratios.TheConstants.{PRODUCT_
 use crate::limits::CONSTANT_LIMIT;
 use frac_core::{Frac, gcd, quotient};
 
-/// What the products of a sum are below in size.
+/// The products of a sum are below this in size.
 pub(crate) const PRODUCT_BOUND: u128 = 1 << 112;
 
 // The greatest size below that.
@@ -27,7 +27,7 @@ pub struct Ratio {
     pub den: i128,
 }
 
-// The greatest common divisor, which a denominator of 1 tells at once.
+// The greatest common divisor. A denominator of 1 needs no computation.
 fn divisor_of(size: u128, whole: u128) -> u128
     ensures { IsGcd size whole result }
 {
@@ -46,7 +46,7 @@ pub(crate) fn reduced(p: i128, q: i128) -> Ratio
     }
 }
 
-// Whether the product of two sizes is below the bound, which most need no division for.
+// Whether the product of two sizes is below the bound. Most need no division for this.
 fn is_bounded(x: u128, y: u128) -> bool
     requires { 0 < y }
     ensures yes { IsTrue result → x * y < PRODUCT_BOUND }
@@ -58,7 +58,7 @@ fn is_bounded(x: u128, y: u128) -> bool
     x <= PRODUCT_MOST / y
 }
 
-// The product, where it is below the bound in size.
+// The product, if it is below the bound in size.
 fn bounded(x: i128, y: i128) -> Option<i128>
     requires { pos 0 <ℤ y }
     ensures value { IfSome result (λ z. z ≡ x *ℤ y) }
@@ -101,7 +101,7 @@ fn is_small(constant: Frac) -> bool
     constant.num().unsigned_abs() < CONSTANT_LIMIT && constant.den().unsigned_abs() < CONSTANT_LIMIT
 }
 
-/// The ratio in lowest terms, where both parts are small.
+/// The ratio in lowest terms, if both parts are small.
 pub fn small_of(r: Ratio) -> Option<Frac>
     requires { pos 0 <ℤ r.den }
     ensures value { IfSome result (λ f. IsRatio f r.num r.den) }

@@ -29,7 +29,7 @@ pub record AreDoubled (pieces : List Piece) (whole : ℤ) (rests : List Piece) :
   pub low : unsigned_abs (total piece_value rests).num ≤ length pieces * (total piece_value pieces).den
   pub small : unsigned_abs whole ≤ length pieces * 2 ^ 45
 
--- those of the first n attributes whose coefficients aren't 0
+-- the attributes are those of the first n whose coefficients aren't 0
 pub record HasFound (b : ℕ → Fraction) (attrs : List ℕ) (n : ℕ) (found : List ℕ) : Type 0 where
   pub rising : AllPairs (λ v w. v < w) found
   pub below : All (λ a. (j : ℕ) → n ≤ j → j < length attrs → a < attr_at attrs j) found

@@ -32,7 +32,7 @@ pub record HasOnly (b : ℕ → Fraction) (attrs : List ℕ) : Type 0 where
   pub off : (v : ℕ) → IsOff attrs v → (b v).num ≡ pos 0
   pub above : (v : ℕ) → 0 < (b v).den
 
--- what holds of the numbers whatever they stand for
+-- the invariant of the numbers, whatever their meaning
 pub record AreKept (attrs : List ℕ) (scale : ℕ) (numbers : List ℤ) : Type 0 where
   pub long : length numbers ≡ length attrs
   pub above : 0 < scale
@@ -45,11 +45,11 @@ pub record IsSum (b : ℕ → Fraction) (attrs : List ℕ) (scale : ℕ) (number
   pub over : AreOver scale b attrs numbers
   pub is_scale : IsScale b scale
 
--- the coefficients with a share more
+-- the coefficients with one more share
 abbrev pub with_share : (ℕ → Fraction) → Share → ℕ → Fraction
 with_share b s v = plus (b v) (share_fraction s v)
 
--- the number over k times the share's denominator, where z over k was the number before
+-- the number over k times the share's denominator, if z over k was the number before
 abbrev pub with_share_number : ℤ → ℕ → Share → ℕ → ℤ
 with_share_number z k s v = z *ℤ pos (s.by.den * 2) +ℤ s.by.num *ℤ (pos k *ℤ coefficient v (form s.of))
 
@@ -57,13 +57,13 @@ with_share_number z k s v = z *ℤ pos (s.by.den * 2) +ℤ s.by.num *ℤ (pos k 
 abbrev pub IsCovered : List ℕ → Share → Type 0
 IsCovered attrs s = (v : ℕ) → IsOff attrs v → (share_fraction s v).num ≡ pos 0
 
--- whatever coefficients the numbers over the scale are, the next numbers over the next scale are those with
--- the share more
+-- if the numbers over the scale are some coefficients, the next numbers over the next scale are those with
+-- one more share
 abbrev pub IsSumWithShare : List ℕ → Share → ℕ → List ℤ → ℕ → List ℤ → Type 0
 IsSumWithShare attrs s scale numbers next_scale next = (b : ℕ → Fraction) → IsSum b attrs scale numbers
     → IsCovered attrs s → IsSum (with_share b s) attrs next_scale next
 
--- whatever coefficients the numbers over the scale are, those with the share more aren't small
+-- if the numbers over the scale are some coefficients, those with one more share aren't small
 abbrev pub IsPastWithShare : List ℕ → Share → ℕ → List ℤ → Type 0
 IsPastWithShare attrs s scale numbers = (b : ℕ → Fraction) → IsSum b attrs scale numbers
     → IsCovered attrs s → AreSmall (with_share b s) → ⊥
@@ -72,19 +72,19 @@ IsPastWithShare attrs s scale numbers = (b : ℕ → Fraction) → IsSum b attrs
 abbrev pub IsCoveredAddend : List ℕ → Addend → Type 0
 IsCoveredAddend attrs a = (v : ℕ) → IsOff attrs v → (a.share v).num ≡ pos 0
 
--- whatever coefficients the numbers over the scale are, the next numbers over the next scale are those with
--- the addend more
+-- if the numbers over the scale are some coefficients, the next numbers over the next scale are those with
+-- one more addend
 abbrev pub IsSumWithAddend : List ℕ → Addend → ℕ → List ℤ → ℕ → List ℤ → Type 0
 IsSumWithAddend attrs a scale numbers next_scale next = (b : ℕ → Fraction) → IsSum b attrs scale numbers
     → IsCoveredAddend attrs a → IsSum (with_addend b a) attrs next_scale next
 
--- whatever coefficients the numbers over the scale are, those with the addend more aren't small
+-- if the numbers over the scale are some coefficients, those with one more addend aren't small
 abbrev pub IsPastWithAddend : List ℕ → Addend → ℕ → List ℤ → Type 0
 IsPastWithAddend attrs a scale numbers = (b : ℕ → Fraction) → IsSum b attrs scale numbers
     → IsCoveredAddend attrs a → AreSmall (with_addend b a) → ⊥
 
--- a common divisor of the whole number and the others, of which each other one is a divisor, also of
--- multiples
+-- a common divisor of the whole number and the others, which each of their common divisors divides, and so
+-- for their multiples
 pub record IsDivisor (whole : ℕ) (numbers : List ℤ) (divisor : ℕ) : Type 0 where
   pub of_whole : divisor ∣ whole
   pub of_each : All (λ z. divisor ∣ unsigned_abs z) numbers

@@ -25,11 +25,11 @@ pub(crate) struct Piece {
 /// The denominator of a piece is at most 2 to this power: it is twice that of a fraction, or 1.
 pub(crate) const DEN_BITS: u32 = 43;
 
-// A sum of as many pieces as there may be that isn't 0 is past their number in size after this many
+// A sum of pieces, of no more than there may be, that isn't 0 is past their number in size after this many
 // doublings.
 const ROUNDS: u32 = DEN_BITS * ADDEND_LIMIT as u32 + 8;
 
-// What an addend has of an attribute.
+// The share of an attribute in an addend.
 fn piece_of(addend: &Addend<'_>, attr: u32) -> Piece
     requires { IsKept addend.now }
     ensures value { piece_value result ≡ (addend_view addend.now).share attr }
@@ -44,7 +44,7 @@ fn piece_of(addend: &Addend<'_>, attr: u32) -> Piece
     }
 }
 
-// What each addend has of the attribute, in order.
+// The share of the attribute in each addend, in order.
 fn pieces_of(alloc: Global, added: &[Addend<'_>], attr: u32) -> Result<Vec<Piece>, OutOfMemory>
     requires { All IsKept added.now }
     ensures total { IfOk result (λ pieces. total piece_value pieces.items
@@ -123,7 +123,8 @@ fn is_past(whole: i64) -> bool
     whole.unsigned_abs() > ADDEND_LIMIT as u64
 }
 
-// Whether a sum is 0: then its doubles are, and otherwise one of them is past the number of pieces in size.
+// Whether a sum is 0. If it is, so are its doubles. Otherwise one of them is past the number of pieces in
+// size.
 fn is_zero(alloc: Global, pieces: Vec<Piece>) -> Result<bool, OutOfMemory>
     requires few { length pieces.items ≤ ADDEND_LIMIT }
     requires kept { All IsPiece pieces.items }
@@ -195,7 +196,7 @@ fn nonzero(alloc: Global, attrs: &[u32], added: &[Addend<'_>]) -> Result<Vec<u32
     Ok(found)
 }
 
-// Where there are few attributes, few have coefficients.
+// Whether there are more attributes than a row may have terms. If not, no more of them have coefficients.
 fn may_be_many(attrs: &[u32]) -> bool
     ensures no { result ≡ false → length attrs.now ≤ TERM_LIMIT }
 {

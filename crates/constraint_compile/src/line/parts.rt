@@ -1,4 +1,4 @@
-// What a row keeps of its addends.
+// The parts of its addends that a row keeps.
 ghost use Rattle.std.specs.Prelude.{◌≡◌, ℕ, ◌≤◌, List, [], length, map, slice_index_or, IfOk};
 ghost use Rattle.std.specs.String.{string_bytes};
 ghost use Rattle.compile_parts.specs.Addends.{addend_view, addends_view};
@@ -10,7 +10,7 @@ use compile_parts::{Addend, Part, Step};
 use frac_core::OutOfMemory;
 use std::alloc::Global;
 
-// The metric of which the addend is a multiple, or an empty name.
+// The metric a multiple of which the addend is, or an empty name.
 fn metric_of(alloc: Global, addend: &Addend<'_>) -> Result<String, OutOfMemory>
     ensures { IfOk result (λ name. string_bytes name ≡ metric_name (addend_view addend.now)) }
 {
@@ -44,7 +44,7 @@ fn any_names_metric(added: &[Addend<'_>]) -> bool
     false
 }
 
-// For each addend the metric of which it is a multiple, or an empty name.
+// For each addend the metric a multiple of which it is, or an empty name.
 fn all_names(alloc: Global, added: &[Addend<'_>]) -> Result<Vec<String>, OutOfMemory>
     ensures { IfOk result (λ names. map string_bytes names.items ≡ map metric_name (addends_view added.now)) }
 {
@@ -55,7 +55,7 @@ fn all_names(alloc: Global, added: &[Addend<'_>]) -> Result<Vec<String>, OutOfMe
     Ok(names)
 }
 
-/// At the place of each addend the metric of which it is a multiple. Most lines name none, and for these
+/// At the place of each addend the metric a multiple of which it is. Most lines name none, and for these
 /// there is no list.
 pub(crate) fn metric_names(alloc: Global, added: &[Addend<'_>]) -> Result<Vec<String>, OutOfMemory>
     ensures { IfOk result (λ names. HaveNames (map string_bytes names.items) (addends_view added.now)) }
@@ -67,7 +67,7 @@ pub(crate) fn metric_names(alloc: Global, added: &[Addend<'_>]) -> Result<Vec<St
     Ok(names)
 }
 
-// What the addend at a place adds to the constant.
+// The contribution of the addend at a place to the constant.
 fn part_at(addend: &Addend<'_>, place: u32) -> Part
     ensures { (names : List (List ℕ)) → slice_index_or names place [] ≡ metric_name (addend_view addend.now)
         → part_view names result ≡ (addend_view addend.now).part }
@@ -80,7 +80,7 @@ fn part_at(addend: &Addend<'_>, place: u32) -> Part
     }
 }
 
-/// The scale after each addend, and what it adds to the constant.
+/// The scale after each addend, and the addend's contribution.
 pub(crate) fn steps_of(
     alloc: Global,
     added: &[Addend<'_>],

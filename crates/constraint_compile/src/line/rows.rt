@@ -27,7 +27,7 @@ use name_tables::{LimitWord, Metrics};
 use problem_core::{Rel, Term};
 use std::alloc::Global;
 
-/// What a row has beside its terms.
+/// The parts of a row other than its terms.
 #[derive(Clone, Copy)]
 pub struct Head {
     pub id: u32,
@@ -109,8 +109,8 @@ fn is_constant_small(metrics: &Metrics, named: &NamedSteps) -> bool
     }
 }
 
-/// The row of what is added on its left side, whatever the views and the terms from which that comes. A limit
-/// of a row that is passed is named by the first in the order attributes, coefficient, constant.
+/// The row of these addends on its left side, from whatever views and terms they come. Of the limits that are
+/// passed, the error has the first in the order attributes, coefficient, constant.
 pub fn row_of_addends(
     alloc: Global,
     metrics: &Metrics,

@@ -20,7 +20,7 @@ pub(crate) struct Scaled {
     pub scales: Vec<u32>,
 }
 
-// The sum with an addend more, unless the scale or a number would be past the limit.
+// The sum with one more addend, unless the scale or a number would be past the limit.
 fn with_more(
     alloc: Global,
     attrs: &[u32],

@@ -41,7 +41,7 @@ fn subtract<'a>(out: &mut Vec<ExprTerm<'a>>, terms: &[ExprTerm<'a>]) -> Result<(
     Ok(())
 }
 
-/// The terms of the left side, and behind them those of the right side, subtracted.
+/// The terms of the left side, and then the terms of the right side, subtracted.
 pub(crate) fn signed_terms<'a>(
     alloc: Global,
     line: &Linear<'a>,

@@ -83,7 +83,6 @@ fn scaled_halves(of: &EdgeAndSize, attr: u32, scale: u32) -> i64
     i64::from(scale) * halves(of, attr)
 }
 
-/// Twice the denominator.
 pub(crate) fn double_den(f: Frac) -> i64
     ensures value { result ≡ pos (f.den * 2) }
     ensures small { unsigned_abs result < 2 ^ 44 }
@@ -177,7 +176,7 @@ fn whole_of(scale: u32, f: Frac) -> u128
     u128::from(scale) * (f.den() as u128 * 2)
 }
 
-// Half of a number, where that is whole.
+// Half of a number, if that is whole.
 fn half(number: i64) -> Option<i64>
     requires { unsigned_abs number < 2 ^ 44 }
     ensures value { IfSome result (λ h. h *ℤ pos 2 ≡ number) }
@@ -190,7 +189,7 @@ fn half(number: i64) -> Option<i64>
     Some(parts.whole)
 }
 
-// The number over 1 with the share added, where that is whole and within the limit.
+// The number over 1 with the share added, if that is whole and within the limit.
 fn whole_more(number: i64, share: &Share, attr: u32) -> Option<i64>
     requires number { unsigned_abs number ≤ COEFFICIENT_LIMIT }
     requires halves { AreHalves share.now.of }
@@ -206,7 +205,7 @@ fn whole_more(number: i64, share: &Share, attr: u32) -> Option<i64>
     Some(next)
 }
 
-// The numbers over 1 with the share added, where each is whole and within the limit.
+// The numbers over 1 with the share added, if each is whole and within the limit.
 fn whole_numbers(
     alloc: Global,
     attrs: &[u32],
@@ -228,7 +227,7 @@ fn whole_numbers(
     Ok(Some(out))
 }
 
-// The numbers with the share added, where the scale is 1 and stays so: most sums need no other.
+// The numbers with the share added, if the scale is 1 and stays so. Most sums need no other.
 fn unscaled(
     alloc: Global,
     attrs: &[u32],
@@ -248,7 +247,7 @@ fn unscaled(
     }
 }
 
-// The sum with a share more over its least scale, unless that or a number would be past the limit.
+// The sum with one more share, over its least scale, unless that or a number would be past the limit.
 fn rescaled(
     alloc: Global,
     attrs: &[u32],
@@ -279,7 +278,7 @@ fn rescaled(
     }))
 }
 
-/// The sum with a share more, unless the scale or a number would be past the limit.
+/// The sum with one more share, unless the scale or a number would be past the limit.
 pub(crate) fn added(
     alloc: Global,
     attrs: &[u32],

@@ -1,4 +1,4 @@
--- What a level costs after an exchange, a turn or a join.
+-- The cost of a level after an exchange, a turn or a join.
 use Rattle.std.specs.Prelude.{◌≡◌, ◌≢◌, ℕ, ◌*◌, ◌<◌, ◌≤◌, List, [], ◌∷◌, map, ℤ, pos, ◌*ℤ◌, All, Any}
 use Rattle.frac_core.specs.Fraction.{Fraction, Fits, IsLowest, IsRatio, sum_den, sum_num}
 use Rattle.problem_core.specs.declared.limits.TheConstants.{WEIGHT_LIMIT}
@@ -19,7 +19,7 @@ use Rattle.corner_lines.specs.Levels.LevelRows.{IsTurningNumber}
 use Rattle.corner_lines.specs.Levels.LevelJoins.{IsJoiningNumber, IsLeavingCount, IsLevelJoin, IsLevelLeave}
 use Rattle.corner_lines.specs.Levels.LevelJoins.{level_count}
 
--- ---- a problem some rows of which may have no weight yet
+-- ---- a problem with rows that may have no weight yet
 
 -- no name comes twice
 abbrev pub AreDifferent : List RowName → Type 0
@@ -49,13 +49,13 @@ abbrev pub HasDeviation : Problem → List Mark → RowName → Fraction → Typ
 HasDeviation p at name value = (x : Point) × StandsAt p at x
     × (deviation name x.num *ℤ pos value.den ≡ value.num *ℤ x.num one_column)
 
--- the next cost is this one and n over `whole` times the value
+-- the next cost is this one plus n over `whole` times the value
 pub record IsCostStep (cost : Fraction) (n : ℤ) (whole : ℕ) (value next : Fraction) : Type 0 where
   pub cost_den : 0 < cost.den
   pub value_den : 0 < value.den
   pub ratio : IsRatio next (sum_num cost n (pos whole) value) (sum_den cost (pos whole) value)
 
--- an exchange adds the entering line's deviation n times over `own * unit`
+-- an exchange adds the entering line's deviation times n over `own * unit`
 abbrev pub ExchangedCostIsCost : Type 0
 ExchangedCostIsCost = (p : Problem) (at : List Mark) (s : Swap) (level unit own size : ℕ)
     (number pivot : RowName → ℤ) (n : ℤ) (cost value next : Fraction)
@@ -73,7 +73,7 @@ TurnedCostIsCost = (p : Problem) (at : List Mark) (s : Swap) (level unit own siz
     → IsCostAt p at level cost → HasDeviation p (exchanged s at) s.enter.row value
     → IsCostStep cost n (own * unit) value next → IsCostAt p (exchanged s at) level next
 
--- a join adds the joining line's deviation as often as it counts, over the unit
+-- a join adds the joining line's deviation times its count over the unit
 abbrev pub JoinedCostIsCost : Type 0
 JoinedCostIsCost = (p q : Problem) (at : List Mark) (level unit own : ℕ) (number : RowName → ℤ)
     (name : RowName) (side : Side) (size : ℕ) (line : RowName → ℤ) (n : ℤ) (cost value next : Fraction)
@@ -106,7 +106,7 @@ abbrev pub IsUnfitStep : Fraction → ℤ → ℕ → Fraction → Type 0
 IsUnfitStep cost n whole value = (next : Fraction) → IsLowest next
     → IsRatio next (sum_num cost n (pos whole) value) (sum_den cost (pos whole) value) → Fits next → ⊥
 
--- where the sum after an exchange doesn't fit, the level has no writing that fits
+-- if the sum after an exchange doesn't fit, the level has no writing that fits
 abbrev pub UnfitExchangedCost : Type 0
 UnfitExchangedCost = (p : Problem) (at : List Mark) (s : Swap) (level unit own size : ℕ)
     (number pivot : RowName → ℤ) (n : ℤ) (cost value : Fraction)
@@ -115,7 +115,7 @@ UnfitExchangedCost = (p : Problem) (at : List Mark) (s : Swap) (level unit own s
     → IsCostAt p at level cost → HasDeviation p (exchanged s at) s.enter.row value
     → IsUnfitStep cost n (own * unit) value → HasNoLevelWriting p (exchanged s at) level
 
--- nor has it where that after a turn doesn't
+-- if the sum after a turn doesn't fit, it has none either
 abbrev pub UnfitTurnedCost : Type 0
 UnfitTurnedCost = (p : Problem) (at : List Mark) (s : Swap) (level unit own size : ℕ)
     (number line : RowName → ℤ) (n : ℤ) (cost value : Fraction)
@@ -124,7 +124,7 @@ UnfitTurnedCost = (p : Problem) (at : List Mark) (s : Swap) (level unit own size
     → IsCostAt p at level cost → HasDeviation p (exchanged s at) s.enter.row value
     → IsUnfitStep cost n (own * unit) value → HasNoLevelWriting p (exchanged s at) level
 
--- nor has it where that after a join doesn't
+-- if the sum after a join doesn't fit, it has none either
 abbrev pub UnfitJoinedCost : Type 0
 UnfitJoinedCost = (p q : Problem) (at : List Mark) (level unit own : ℕ) (number : RowName → ℤ)
     (name : RowName) (side : Side) (size : ℕ) (line : RowName → ℤ) (n : ℤ) (cost value : Fraction)
@@ -136,7 +136,7 @@ UnfitJoinedCost = (p q : Problem) (at : List Mark) (level unit own : ℕ) (numbe
 
 -- ---- the order of a corner's marks
 
--- it is free
+-- a level's row and cost don't depend on it
 abbrev pub OrderIsFree : Type 0
 OrderIsFree = (p : Problem) (a b : List Mark) (level unit own : ℕ) (number : RowName → ℤ) → SameMarks a b
     → (HasLevelRow p a level unit own number → HasLevelRow p b level unit own number)

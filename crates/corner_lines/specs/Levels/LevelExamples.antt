@@ -19,7 +19,7 @@ under_stay = record { row = StayOf 1; side = Under }
 abbrev pub below_two : List Mark
 below_two = under_row ∷ []
 
--- the required level falls where x grows
+-- the required level falls when x grows
 abbrev pub stay_falls : RowName → ℤ
 stay_falls (Held id) = pos 0
 stay_falls (StayOf attr) = negsuc 0
@@ -38,7 +38,7 @@ SingleHasFront = AreLevelRows (single 2) below_two single_rows
     × IsFrontIn (single 2) single_rows over_stay 0 (negsuc 0)
     × ((level : ℕ) (front : ℤ) → IsFrontIn (single 2) single_rows under_stay level front → front <ℤ pos 0 → ⊥)
 
--- a row with a number 1 does not fit where its own number does not, and fits where that is 1
+-- a row with a number 1 does not fit if its own number does not, and fits if that is 1
 abbrev pub SingleIsUnfit : Type 0
 SingleIsUnfit = IsUnfitRow (single 2) below_two PART_BOUND stay_falls
     × (IsUnfitRow (single 2) below_two 1 stay_falls → ⊥)
@@ -47,7 +47,7 @@ SingleIsUnfit = IsUnfitRow (single 2) below_two PART_BOUND stay_falls
 abbrev pub whole_number : ℤ → Fraction
 whole_number n = record { num = n; den = 1 }
 
--- 0 and the bound times 1 doesn't fit, and 0 and 1 times 1 does
+-- 0 plus the bound times 1 doesn't fit, and 0 plus 1 times 1 does
 abbrev pub SumIsUnfit : Type 0
 SumIsUnfit = IsUnfitStep (whole_number (pos 0)) (pos PART_BOUND) 1 (whole_number (pos 1))
     × (IsUnfitStep (whole_number (pos 0)) (pos 1) 1 (whole_number (pos 1)) → ⊥)

@@ -1,4 +1,4 @@
--- When what a level costs fits, told by its row.
+-- When a level's cost fits, by its row.
 use Rattle.std.specs.Prelude.{◌≡◌, ℕ, ◌*◌, ◌<◌, List, ℤ, pos, unsigned_abs, All}
 use Rattle.frac_core.specs.Fraction.{Fraction, Fits, IsFitting, IsLowest}
 use Rattle.problem_core.specs.declared.parts.Side.{Side}
@@ -15,7 +15,7 @@ use Rattle.corner_lines.specs.Levels.LevelRows.{HasLevelRow, IsLevelMultiple, Is
 use Rattle.corner_lines.specs.Levels.LevelRows.{IsEnteringNumber, IsTurningNumber, reduced_number}
 use Rattle.corner_lines.specs.Levels.LevelCosts.{IsSound}
 
--- ---- what has to fit
+-- ---- the numbers that have to fit
 
 -- the scale, the outside lines' numbers, and both reduced costs of each line of the level
 pub record IsFittingRow (p : Problem) (at : List Mark) (level unit own : ℕ) (number : RowName → ℤ) : Type 0
@@ -27,7 +27,7 @@ pub record IsFittingRow (p : Problem) (at : List Mark) (level unit own : ℕ) (n
     pub inside_fit : All (λ l. l.level ≡ level → (side inside : Side) → IsIn (place_of l.name inside) at
         → IsFitting (reduced_number side level unit own (inside_number inside level unit own l) l)) (lines p)
 
--- what is known of a level at a corner
+-- the facts about a level at a corner
 pub record IsLevelThere (p : Problem) (at : List Mark) (level unit own : ℕ) (number : RowName → ℤ)
     (cost : Fraction) : Type 0 where
   pub sound : IsSound p
@@ -38,19 +38,19 @@ pub record IsLevelThere (p : Problem) (at : List Mark) (level unit own : ℕ) (n
   pub cost_is : IsCostAt p at level cost
   pub lowest : IsLowest cost
 
--- where a level's row and its cost fit, it has a writing that fits
+-- if a level's row and its cost fit, it has a writing that fits
 abbrev pub FittingRowHasWriting : Type 0
 FittingRowHasWriting = (p : Problem) (at : List Mark) (level unit own : ℕ) (number : RowName → ℤ)
     (cost : Fraction) → IsLevelThere p at level unit own number cost
     → IsFittingRow p at level unit own number → Fits cost → HasNoLevelWriting p at level → ⊥
 
--- where they do not both fit, it has none
+-- if they do not both fit, it has none
 abbrev pub UnfitRowHasNoWriting : Type 0
 UnfitRowHasNoWriting = (p : Problem) (at : List Mark) (level unit own : ℕ) (number : RowName → ℤ)
     (cost : Fraction) → IsLevelThere p at level unit own number cost
     → (IsFittingRow p at level unit own number → Fits cost → ⊥) → HasNoLevelWriting p at level
 
--- a row no lowest terms of which fit
+-- if no lowest terms of a level's row fit, it has none
 abbrev pub UnfitMultipleHasNoWriting : Type 0
 UnfitMultipleHasNoWriting = (p : Problem) (at : List Mark) (level unit own : ℕ) (by number : RowName → ℤ)
     → IsSound p → HasRays p at → IsLevelUnit p level unit → IsLevelMultiple p at level unit own by
@@ -59,7 +59,7 @@ UnfitMultipleHasNoWriting = (p : Problem) (at : List Mark) (level unit own : ℕ
 
 -- ---- numbers that fit without a look at each line
 
--- a level's row fits where its scale and the outside lines' numbers are small
+-- a level's row fits if its scale and the outside lines' numbers are small
 abbrev pub SmallRowFits : Type 0
 SmallRowFits = (p : Problem) (at : List Mark) (level unit own : ℕ) (number : RowName → ℤ) → IsSound p
     → own * unit < small_scale
@@ -68,19 +68,19 @@ SmallRowFits = (p : Problem) (at : List Mark) (level unit own : ℕ) (number : R
 
 -- ---- the numbers that an exchange takes
 
--- that of the entering line fits where the level's row does
+-- the entering line's number fits if the level's row does
 abbrev pub EnteringNumberFits : Type 0
 EnteringNumberFits = (p : Problem) (at : List Mark) (s : Swap) (level unit own : ℕ) (number : RowName → ℤ)
     (n : ℤ) → IsExchange p at s → IsFittingRow p at level unit own number → IsOutsideLine at s.enter.row
     → IsEnteringNumber p s.enter level unit own number n → IsFitting n
 
--- so does that of a turn
+-- so does the number of a turn
 abbrev pub TurningNumberFits : Type 0
 TurningNumberFits = (p : Problem) (at : List Mark) (s : Swap) (level unit own : ℕ) (number : RowName → ℤ)
     (n : ℤ) → IsExchange p at s → IsFittingRow p at level unit own number → s.enter.row ≡ s.leave.row
     → IsTurningNumber p s level unit own n → IsFitting n
 
--- what the leaving line counts; `extra` is this times a number that fits
+-- so does the leaving line's count; `extra` is this times a number that fits
 abbrev pub LeavingNumberFits : Type 0
 LeavingNumberFits = (p : Problem) (at : List Mark) (s : Swap) (level unit own : ℕ) (number : RowName → ℤ)
     → IsIn (place s.leave) at → IsFittingRow p at level unit own number

@@ -27,7 +27,7 @@ EmptyLevelHasRow = (p : Problem) (at : List Mark) (level : ℕ) → All (λ l. w
 
 -- ---- the unit
 
--- where the unit has grown by a factor, the numbers have, and `own` has not, but for their common divisor
+-- if the unit has grown by a factor, so have the numbers, and `own` has not, except for their common divisor
 abbrev pub GrownRowIsRow : Type 0
 GrownRowIsRow = (p : Problem) (at : List Mark) (level unit own factor divisor : ℕ) (number : RowName → ℤ)
     → IsProblem p → IsLevelUnit p level unit → 0 < factor → IsGcd factor own divisor
@@ -56,19 +56,19 @@ weightless l = record {
   form = l.form;
 }
 
--- l is as m, but without its weight where m has this name
+-- l is as m, but without its weight if m has this name
 abbrev pub IsLineBefore : RowName → Line → Line → Type 0
 IsLineBefore name l m = ((l ≡ m) × (m.name ≢ name)) ⊎ ((l ≡ weightless m) × (m.name ≡ name))
 
--- so are the lines of the first list as those of the second, one by one
+-- each line of the first list is so as the line of the second at its place
 abbrev pub AreLinesBefore : RowName → List Line → List Line → Type 0
 AreLinesBefore name [] [] = Unit {0}
 AreLinesBefore name [] (m ∷ ms) = ⊥
 AreLinesBefore name (l ∷ ls) [] = ⊥
 AreLinesBefore name (l ∷ ls) (m ∷ ms) = IsLineBefore name l m × AreLinesBefore name ls ms
 
--- with its weight the unit is the least common multiple of that before and of the line's scale over its
--- common divisor with the weight
+-- with its weight the unit is the least common multiple of two numbers: the unit before, and the line's scale
+-- over its common divisor with the weight
 abbrev pub JoinedUnitIsUnit : Type 0
 JoinedUnitIsUnit = (p q : Problem) (level unit divisor share next : ℕ) (name : RowName) → IsProblem q
     → AreLinesBefore name (lines p) (lines q) → Any (λ l. l.name ≡ name) (lines q) → IsLevelUnit p level unit
@@ -76,7 +76,7 @@ JoinedUnitIsUnit = (p q : Problem) (level unit divisor share next : ℕ) (name :
     → (l.level ≡ level) × IsGcd l.scale l.weight divisor × (l.scale / divisor ≡ share)) (lines q)
     → IsLeastMultiple unit share next → IsLevelUnit q level next
 
--- what a join starts from: the level's row without the line's weight, the line's inside mark, its equation
+-- the beginning of a join: the level's row without the line's weight, the line's inside mark, its equation
 pub record IsLevelJoin (p q : Problem) (at : List Mark) (level unit own : ℕ) (number : RowName → ℤ)
     (name : RowName) (side : Side) (size : ℕ) (line : RowName → ℤ) : Type 0 where
   pub before : AreLinesBefore name (lines p) (lines q)
@@ -85,7 +85,7 @@ pub record IsLevelJoin (p q : Problem) (at : List Mark) (level unit own : ℕ) (
   pub no_other : (other : Side) → IsIn (place_of name other) at → other ≡ side
   pub line_is : IsPivot q at name name size line
 
--- what the line counts, with the other sign
+-- the line's count, with the other sign
 abbrev pub IsJoiningNumber : Problem → RowName → Side → (level unit own : ℕ) → ℤ → Type 0
 IsJoiningNumber q name side level unit own n =
     All (λ l. l.name ≡ name → n ≡ neg_ℤ (inside_number side level unit own l)) (lines q)
@@ -120,7 +120,7 @@ FreeRowChangesNothing = (p q : Problem) (at : List Mark) (level unit own : ℕ) 
 abbrev pub level_count : ℕ → List Row → ℕ
 level_count level rows = length (filter (λ r. nat_eq (rank_level r.rank) level) rows)
 
--- when all rows have joined the corner, but none its level yet, each level has its row from before
+-- when all rows have joined the corner, and none its level yet, each level has its row from before
 abbrev pub JoiningRowsAreFree : Type 0
 JoiningRowsAreFree = (p : Problem) (rest : List Row) (at joined : List Mark) (level unit own : ℕ)
     (number : RowName → ℤ) → AreJoined p at joined → All (HasOneIn joined) rest
@@ -137,13 +137,13 @@ OneRowMoreJoins = (p : Problem) (before : List Row) (r : Row) (after : List Row)
     → AreLinesBefore (Held r.id) (lines (with_first_rows level (level_count level before) p))
     (lines (with_first_rows level (level_count level before + 1) p))
 
--- at last all have theirs
+-- at last all rows have their weight
 abbrev pub AllRowsHaveJoined : Type 0
 AllRowsHaveJoined = (p : Problem) (level j : ℕ) → level_count level p.rows ≤ j → with_first_rows level j p ≡ p
 
 -- ---- a row leaves its level
 
--- what it starts from: the level's row with the line's weight, the line's inside mark, its equation
+-- the beginning of a departure: the level's row with the line's weight, the line's inside mark, its equation
 pub record IsLevelLeave (p q : Problem) (at : List Mark) (level unit own : ℕ) (number : RowName → ℤ)
     (name : RowName) (side : Side) (size : ℕ) (line : RowName → ℤ) : Type 0 where
   pub before : AreLinesBefore name (lines q) (lines p)
@@ -152,7 +152,7 @@ pub record IsLevelLeave (p q : Problem) (at : List Mark) (level unit own : ℕ) 
   pub no_other : (other : Side) → IsIn (place_of name other) at → other ≡ side
   pub line_is : IsPivot q at name name size line
 
--- what the line counted
+-- the line's count
 abbrev pub IsLeavingCount : Problem → RowName → Side → (level unit own : ℕ) → ℤ → Type 0
 IsLeavingCount p name side level unit own n =
     All (λ l. l.name ≡ name → n ≡ inside_number side level unit own l) (lines p)
@@ -174,7 +174,7 @@ LeftRowIsRow = (p q : Problem) (at : List Mark) (level unit own : ℕ) (number :
     → IsLeavingCount p name side level unit own n → AreFactors size n k m
     → IsDividedRow q at (k * own) (sum_by k number m line) low next → HasLevelRow q at level unit low next
 
--- where the unit has shrunk by a factor, `own` has grown by it
+-- if the unit has shrunk by a factor, `own` has grown by it
 abbrev pub ShrunkRowIsRow : Type 0
 ShrunkRowIsRow = (p : Problem) (at : List Mark) (level unit own factor low : ℕ) (number next : RowName → ℤ)
     → IsProblem p → IsLevelUnit p level unit → 0 < factor → HasLevelRow p at level (factor * unit) own number

@@ -15,8 +15,8 @@ use Rattle.corner_lines.specs.LineEquations.{IsLineEquation, IsOutsideLine, devi
 
 -- ---- before it is divided
 
--- a level's row whose numbers may have a common factor: the lines cancel, and each inside one is there as
--- often as it counts, times `own`
+-- a level's row whose numbers may have a common factor: the lines cancel, and each inside line is there with
+-- its count times `own`
 pub record IsLevelMultiple (p : Problem) (at : List Mark) (level unit own : ℕ) (by : RowName → ℤ) : Type 0
   where
     pub own_positive : 0 < own
@@ -26,7 +26,7 @@ pub record IsLevelMultiple (p : Problem) (at : List Mark) (level unit own : ℕ)
     pub over : All (λ l. IsIn (place_of l.name Over) at
         → by l.name ≡ neg_ℤ (pos (own * over_share unit level l))) (lines p)
 
--- `low` and the numbers of the outside lines are `own` and theirs in lowest terms
+-- `low` and the numbers of the outside lines are `own` and its numbers in lowest terms
 pub record IsDividedRow (p : Problem) (at : List Mark) (own : ℕ) (by : RowName → ℤ) (low : ℕ)
     (number : RowName → ℤ) : Type 0 where
   pub factor : ℕ
@@ -56,9 +56,9 @@ IsUnfitRow p at own by = (low : ℕ) (number : RowName → ℤ) → IsDividedRow
 
 -- ---- a line's equation
 
--- the lines cancel when each is taken as often as `pivot` says; the line `enter` has -size, and all lines
--- with a mark inside have 0 but for `leave`: the equation of the leaving line solved for the entering one,
--- or where both are one line its own equation
+-- the lines cancel when each is taken times its number in `pivot`. The line `enter` has -size, and of all
+-- lines with a mark inside only `leave` has a number: the equation of the leaving line solved for the
+-- entering one, or, if both are one line, its own equation
 pub record IsPivot (p : Problem) (at : List Mark) (enter leave : RowName) (size : ℕ)
     (pivot : RowName → ℤ) : Type 0 where
   pub size_positive : 0 < size
@@ -67,40 +67,40 @@ pub record IsPivot (p : Problem) (at : List Mark) (enter leave : RowName) (size 
   pub inside_zero : (side : Side) → All (λ l. IsIn (place_of l.name side) at → l.name ≢ leave
       → pivot l.name ≡ pos 0) (lines p)
 
--- the number of a line in the level's row when its mark of this side is inside
+-- the number of a line in the level's row if its mark of this side is inside
 abbrev pub inside_number : Side → (level unit own : ℕ) → Line → ℤ
 inside_number Under level unit own l = pos (own * under_share unit level l)
 inside_number Over level unit own l = neg_ℤ (pos (own * over_share unit level l))
 
--- k and m are as size and n to each other
+-- k and m have the ratio of size and n
 pub record AreFactors (size : ℕ) (n : ℤ) (k : ℕ) (m : ℤ) : Type 0 where
   pub above : 0 < k
   pub same : m *ℤ pos size ≡ n *ℤ pos k
 
--- k times the row and m times the pivot
+-- k times the row plus m times the pivot
 abbrev pub sum_by : ℕ → (RowName → ℤ) → ℤ → (RowName → ℤ) → RowName → ℤ
 sum_by k by m pivot name = pos k *ℤ by name +ℤ m *ℤ pivot name
 
 -- ---- an exchange
 
--- the entering line's number in the level's row, less what it counts from now on: the reduced cost of the
--- entering mark, with the other sign where this is an under mark
+-- the entering line's number in the level's row, less its count after the exchange: the reduced cost of the
+-- entering mark, with the other sign if this is an under mark
 abbrev pub IsEnteringNumber : Problem → Mark → (level unit own : ℕ) → (RowName → ℤ) → ℤ → Type 0
 IsEnteringNumber p enter level unit own number n =
     All (λ l. l.name ≡ enter.row → n ≡ number l.name -ℤ inside_number enter.side level unit own l) (lines p)
 
--- k times what the leaving line counted
+-- k times the leaving line's count
 abbrev pub IsLeavingNumber : Problem → Mark → (level unit own k : ℕ) → ℤ → Type 0
 IsLeavingNumber p leave level unit own k extra =
     All (λ l. l.name ≡ leave.row → extra ≡ pos k *ℤ inside_number leave.side level unit own l) (lines p)
 
--- k times the outside lines' numbers and m times the pivot, and `extra` with it at the leaving line
+-- k times the outside lines' numbers plus m times the pivot, and `extra` more at the leaving line
 abbrev pub exchanged_sum : ℕ → (RowName → ℤ) → ℤ → (RowName → ℤ) → RowName → ℤ → RowName → ℤ
 exchanged_sum k number m pivot leave extra name =
     cond (nat_eq (place_of name Under) (place_of leave Under)) (extra +ℤ m *ℤ pivot name)
     (sum_by k number m pivot name)
 
--- what an exchange starts from: the level's row, and the leaving line's equation solved for the entering line
+-- the beginning of an exchange: the level's row, and the leaving line's equation solved for the entering line
 pub record IsLevelExchange (p : Problem) (at : List Mark) (s : Swap) (level unit own : ℕ)
     (number : RowName → ℤ) (size : ℕ) (pivot : RowName → ℤ) : Type 0 where
   pub whole : IsWhole p
@@ -131,7 +131,7 @@ ExchangedRowIsRow = (p : Problem) (at : List Mark) (s : Swap) (level unit own si
 
 -- ---- a turn
 
--- what the line counted, less what it counts from now on
+-- the line's count before, less its count after
 abbrev pub IsTurningNumber : Problem → Swap → (level unit own : ℕ) → ℤ → Type 0
 IsTurningNumber p s level unit own n =
     All (λ l. l.name ≡ s.leave.row → n ≡ inside_number s.leave.side level unit own l
@@ -155,14 +155,14 @@ TurnedRowIsRow = (p : Problem) (at : List Mark) (s : Swap) (level unit own size 
 
 -- ---- reduced costs
 
--- the reduced cost of a line's mark of this side, where the line has the number y in the level's row
+-- the reduced cost of a line's mark of this side, if the line has the number y in the level's row
 abbrev pub reduced_number : Side → (level unit own : ℕ) → ℤ → Line → ℤ
 reduced_number Under level unit own y l = pos (own * under_share unit level l) -ℤ y
 reduced_number Over level unit own y l = pos (own * over_share unit level l) +ℤ y
 
 -- ---- a level that an exchange leaves alone
 
--- where neither the entering mark's reduced cost nor what the leaving line counts is there, nothing changes
+-- if the entering mark's reduced cost and the leaving line's count are 0, nothing changes
 abbrev pub UntouchedRowStays : Type 0
 UntouchedRowStays = (p : Problem) (at : List Mark) (s : Swap) (level unit own size : ℕ)
     (number pivot : RowName → ℤ) → IsLevelExchange p at s level unit own number size pivot
@@ -172,7 +172,7 @@ UntouchedRowStays = (p : Problem) (at : List Mark) (s : Swap) (level unit own si
 
 -- ---- equations of lines as pivots
 
--- the line's own number with the other sign, and those of the others
+-- the line's own number with the other sign, and the numbers of the others
 abbrev pub line_numbers : RowName → ℕ → (RowName → ℤ) → RowName → ℤ
 line_numbers line own by name =
     cond (nat_eq (place_of name Under) (place_of line Under)) (neg_ℤ (pos own)) (by name)
@@ -184,7 +184,7 @@ EquationIsPivot = (p : Problem) (at : List Mark) (mark : Mark) (own : ℕ) (by :
     → IsLineEquation p at (deviation mark.row) own by num den
     → IsPivot p at mark.row mark.row own (line_numbers mark.row own by)
 
--- times a number with which the entering line's is below 0
+-- multiplied by a number with which the entering line's number is below 0, it is solved for that line
 abbrev pub PivotIsSolved : Type 0
 PivotIsSolved = (p : Problem) (at : List Mark) (enter leave : RowName) (own size : ℕ) (line : RowName → ℤ)
     (t : ℤ) → IsPivot p at leave leave own line → 0 < size → t *ℤ line enter ≡ neg_ℤ (pos size)

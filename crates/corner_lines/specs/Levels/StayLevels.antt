@@ -1,4 +1,4 @@
--- The level of a stay, at which it stands alone: its equation is the level's row.
+-- The level of a stay, at which it is alone: its equation is the level's row.
 use Rattle.std.specs.Prelude.{◌≡◌, ℕ, ◌*◌, List, ℤ, pos, neg_ℤ, unsigned_abs, All}
 use Rattle.std.specs.Int.{◌∣◌}
 use Rattle.frac_core.specs.Fraction.{Fraction, Fits, IsFitting, IsLowest}
@@ -20,12 +20,12 @@ use Rattle.corner_lines.specs.LineEquations.{IsOutsideLine}
 use Rattle.corner_lines.specs.Levels.LevelRows.{HasLevelRow, IsPivot, reduced_number}
 use Rattle.corner_lines.specs.Levels.LevelCosts.{HasDeviation}
 
--- with the other sign where the inside mark is an under mark
+-- with the other sign if the inside mark is an under mark
 abbrev pub turned : Side → ℤ → ℤ
 turned Under z = neg_ℤ z
 turned Over z = z
 
--- at the level of a stay no other line stands
+-- a stay's level has no other line
 abbrev pub StayStandsAlone : Type 0
 StayStandsAlone = (p : Problem) (attr level : ℕ) → IsWhole p → IsLevelAt p (StayLevel attr) level
     → IsStayLevel p level attr
@@ -47,13 +47,13 @@ InsideStayHasRow = (p : Problem) (at : List Mark) (level attr : ℕ) (side : Sid
     (line : RowName → ℤ) → IsInsideStay p at level attr side own line
     → IsLevelUnit p level 1 × HasLevelRow p at level 1 own (λ name. turned side (line name))
 
--- its level costs its deviation, with the other sign where its under mark is inside
+-- the cost of its level is its deviation, with the other sign if its under mark is inside
 abbrev pub InsideStayCosts : Type 0
 InsideStayCosts = (p : Problem) (at : List Mark) (level attr : ℕ) (side : Side) (own : ℕ) (line : RowName → ℤ)
     (value : Fraction) → IsInsideStay p at level attr side own line → HasDeviation p at (StayOf attr) value
     → IsCostAt p at level (record { num = turned side value.num; den = value.den })
 
--- where its equation fits, its level does if twice the stay's own number fits
+-- if its equation fits, and twice the stay's own number, its level fits
 abbrev pub InsideStayFits : Type 0
 InsideStayFits = (p : Problem) (at : List Mark) (level attr : ℕ) (side : Side) (own : ℕ) (line : RowName → ℤ)
     (value : Fraction) → IsInsideStay p at level attr side own line → HasRays p at
@@ -61,14 +61,14 @@ InsideStayFits = (p : Problem) (at : List Mark) (level attr : ℕ) (side : Side)
     → All (λ l. IsOutsideLine at l.name → IsFitting (line l.name)) (lines p)
     → IsFitting (pos (2 * own)) → HasNoLevelWriting p at level → ⊥
 
--- and if not, it does not
+-- if twice that number does not, its level does not
 abbrev pub InsideStayIsUnfit : Type 0
 InsideStayIsUnfit = (p : Problem) (at : List Mark) (level attr : ℕ) (side : Side) (own : ℕ)
     (line : RowName → ℤ) (value : Fraction) → IsInsideStay p at level attr side own line → HasRays p at
     → HasDeviation p at (StayOf attr) value → IsLowest value
     → (IsFitting (pos (2 * own)) → ⊥) → HasNoLevelWriting p at level
 
--- the level of a stay outside has the unit 1 and a row of zeros
+-- the level of an outside stay has the unit 1 and a row of zeros
 abbrev pub OutsideStayHasRow : Type 0
 OutsideStayHasRow = (p : Problem) (at : List Mark) (level attr : ℕ) → IsStayLevel p level attr
     → IsOutsideLine at (StayOf attr) → IsLevelUnit p level 1 × HasLevelRow p at level 1 1 (λ name. pos 0)
@@ -78,15 +78,15 @@ abbrev pub OutsideStayFits : Type 0
 OutsideStayFits = (p : Problem) (at : List Mark) (level attr : ℕ) → IsWhole p → IsCorner p at → HasRays p at
     → IsStayLevel p level attr → IsOutsideLine at (StayOf attr) → HasNoLevelWriting p at level → ⊥
 
--- at its level both marks of a stay outside cost 1
+-- at its level both marks of an outside stay cost 1
 abbrev pub OutsideStayCostsOne : Type 0
 OutsideStayCostsOne = (p : Problem) (level attr : ℕ) → IsStayLevel p level attr
     → All (λ l. l.name ≡ StayOf attr → (side : Side) → reduced_number side level 1 1 (pos 0) l ≡ pos 1)
     (lines p)
 
--- ---- the same of the stay's level as a quantity
+-- ---- the level of a stay as a quantity
 
--- that of a stay inside is not what doesn't fit where its equation and twice its own number fit
+-- the level of an inside stay is no quantity that doesn't fit, if its equation and twice its own number fit
 abbrev pub StayLevelFits : Type 0
 StayLevelFits = (p : Problem) (at : List Mark) (level attr : ℕ) (side : Side) (own : ℕ) (line : RowName → ℤ)
     (value : Fraction) → IsInsideStay p at level attr side own line → HasRays p at
@@ -94,14 +94,14 @@ StayLevelFits = (p : Problem) (at : List Mark) (level attr : ℕ) (side : Side) 
     → All (λ l. IsOutsideLine at l.name → IsFitting (line l.name)) (lines p)
     → IsFitting (pos (2 * own)) → IsUnfitWhat p at (LevelOf (StayLevel attr)) → ⊥
 
--- and it is where twice that number does not
+-- if twice that number does not, it is one
 abbrev pub StayLevelIsUnfit : Type 0
 StayLevelIsUnfit = (p : Problem) (at : List Mark) (level attr : ℕ) (side : Side) (own : ℕ)
     (line : RowName → ℤ) (value : Fraction) → IsInsideStay p at level attr side own line → HasRays p at
     → HasDeviation p at (StayOf attr) value → IsLowest value → IsLevelAt p (StayLevel attr) level
     → (IsFitting (pos (2 * own)) → ⊥) → IsUnfitWhat p at (LevelOf (StayLevel attr))
 
--- that of a stay outside never is
+-- the level of an outside stay never is
 abbrev pub OutsideStayLevelFits : Type 0
 OutsideStayLevelFits = (p : Problem) (at : List Mark) (attr : ℕ) → IsWhole p → IsCorner p at → HasRays p at
     → IsOutsideLine at (StayOf attr) → IsUnfitWhat p at (LevelOf (StayLevel attr)) → ⊥

@@ -1,4 +1,5 @@
-// Lines after an exchange, whatever fits there: which mark is inside, and the sign of its value.
+// Lines after an exchange, even if not everything fits there: which mark is inside, and the sign of its
+// value.
 ghost use Rattle.std.specs.Prelude.{◌≡◌, ◌≢◌, ◌↔◌, ◌⊎◌, ◌<◌, ◌≤◌, ◌*ℤ◌, ◌<ℤ◌, pos, true, false, length};
 ghost use Rattle.std.specs.Prelude.{List, IsTrue};
 ghost use Rattle.std.specs.Ordering.{int_cmp};
@@ -17,7 +18,7 @@ use path_lines::{Inside, Pivot, Ratio, Step, is_on_side, moved_sign, number_of, 
 use problem_core::Side;
 use std::cmp::Ordering;
 
-/// The line at a place of a corner, of so many: its equation, where a mark of it is inside.
+/// The line at a place of a corner, of so many: its equation, if a mark of it is inside.
 #[derive(Clone, Copy)]
 pub(crate) struct LineAt<'a> {
     pub inside: &'a Option<Inside>,
@@ -39,8 +40,8 @@ pub(crate) fn side_after(line: &Option<Inside>, step: Step, at: usize) -> Option
     Some(inside.side)
 }
 
-/// What moves a line's deviation: `own` times it has this number at the entering line, and this value before
-/// the exchange.
+/// The parts by which a line's deviation moves: `own` times the deviation has this number at the entering
+/// line, and this value before the exchange.
 #[derive(Clone, Copy)]
 pub(crate) struct Mover {
     pub own: i64,
@@ -48,7 +49,7 @@ pub(crate) struct Mover {
     pub value: Frac,
 }
 
-/// The number of a line by itself: 1 at its own place.
+/// The number at a place in the equation of an outside line by itself: 1 at its own place.
 pub(crate) fn own_number(at: usize, enter: usize) -> i64
     ensures here { at ≡ enter → result ≡ pos 1 }
     ensures other { at ≢ enter → result ≡ pos 0 }
@@ -79,7 +80,7 @@ pub(crate) fn mover_of(line: LineAt<'_>, enter: usize) -> Mover
     }
 }
 
-/// By what times the leaving line's value a mover is moved.
+/// The factor by which the leaving line's value moves the line's deviation.
 pub(crate) fn ratio_of(pivot: &Pivot, number: i64, own: i64) -> Ratio
     requires number { IsFitting number }
     requires own { IsFitting own }
@@ -133,7 +134,7 @@ fn is_up_after(line: LineAt<'_>, pivot: &Pivot) -> bool
     }
 }
 
-// Whether it is so, or isn't judged.
+// Whether the line isn't judged, or has no negative value so.
 fn is_fine_after(line: LineAt<'_>, pivot: &Pivot, judged: bool) -> bool
     requires sized { IsSizedLine line.count line.inside.now }
     requires pivot { IsSizedPivot line.count pivot.now }
@@ -148,7 +149,7 @@ fn is_fine_after(line: LineAt<'_>, pivot: &Pivot, judged: bool) -> bool
     }
 }
 
-// Whether a line is before the one place, or from the other on.
+// Whether a line is before `judged`, or from `rows` on.
 fn is_judged(at: usize, judged: usize, rows: usize) -> bool
     ensures { IsTrue result ↔ ((at < judged) ⊎ (rows ≤ at)) }
 {

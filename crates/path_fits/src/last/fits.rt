@@ -1,4 +1,4 @@
-// How marks and attributes stand after an exchange.
+// Whether marks and attributes fit after an exchange.
 ghost use Rattle.std.specs.Prelude.{◌≡◌, ◌≢◌, ◌↔◌, ◌<◌, true, false, length, get_or, List, All, IfOk, IfErr};
 ghost use Rattle.std.specs.Prelude.{IfSome, IfNone, IsTrue};
 ghost use Rattle.problem_core.specs.Layout.{Problem};
@@ -37,7 +37,7 @@ pub(crate) fn is_inside_after(line: &Option<Inside>, step: Step, at: usize, side
     }
 }
 
-/// How a mark stands after the exchange.
+/// Whether a mark fits after the exchange.
 pub(crate) fn mark_fit(alloc: Global, case: PivotCase<'_>, mark: Mark) -> Result<Fit, OutOfMemory>
     requires { IsPivotCase case }
     ensures { IfOk result (λ fit. AfterPivot case.entry
@@ -60,7 +60,7 @@ pub(crate) fn mark_fit(alloc: Global, case: PivotCase<'_>, mark: Mark) -> Result
     }
 }
 
-// The sum of the attribute whose stay has this target, at the corner before.
+// The sum of the attribute at the corner before the exchange. Its stay has this target.
 fn attr_before(alloc: Global, target: Frac, line: LineAt<'_>) -> Result<Sum, SumStop>
     requires { IsSizedLine line.count line.inside.now }
     ensures sized { IfOk result (IsSized line.entry.count) }
@@ -83,7 +83,7 @@ struct StayPlace {
     at: usize,
 }
 
-// Where the attribute's stay stands, unless it has none.
+// The target and the place of the attribute's stay, unless it has none.
 fn stay_place(p: &Problem, attr: u32) -> Option<StayPlace>
     ensures some { IfSome result (λ s. IsStayAt p.now attr s.at s.target) }
     ensures none { IfNone result (All (λ s. s.attr ≢ attr) p.now.stays) }
@@ -122,7 +122,7 @@ pub(crate) fn attr_after(
     Ok(Some(sum))
 }
 
-/// How an attribute stands after the exchange.
+/// Whether an attribute fits after the exchange.
 pub(crate) fn attr_fit(alloc: Global, case: PivotCase<'_>, attr: u32) -> Result<Fit, OutOfMemory>
     requires { IsPivotCase case }
     ensures { IfOk result (λ fit. AfterFittingAttrs case.entry
@@ -135,7 +135,7 @@ pub(crate) fn attr_fit(alloc: Global, case: PivotCase<'_>, attr: u32) -> Result<
     }
 }
 
-// Whether the target and what the line deviates fit together.
+// Whether the sum of the target and the line's deviation fits.
 fn stay_fits(target: Frac, line: &Option<Inside>) -> bool
     ensures fits { result ≡ true → IsFittingStay target line.now }
     ensures unfit { result ≡ false → IsUnfitStay target line.now }

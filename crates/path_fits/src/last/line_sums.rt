@@ -15,7 +15,6 @@ use path_levels::moved_value;
 use path_lines::{Inside, Pivot, Sum, SumStop, carried, in_lowest_terms, number_of, sum_of};
 use std::alloc::Global;
 
-// The same numbers.
 fn copied(alloc: Global, numbers: &[i64]) -> Result<Vec<i64>, OutOfMemory>
     ensures { IfOk result (λ out. out.items ≡ numbers.now) }
 {
@@ -37,7 +36,7 @@ pub(crate) fn with_value(alloc: Global, sum: &Sum, value: Frac) -> Result<Sum, O
     Ok(Sum { own, by, value })
 }
 
-// A line by itself.
+// The numbers of an outside line by itself.
 fn unit_numbers(alloc: Global, count: usize, at: usize) -> Result<Vec<i64>, OutOfMemory>
     ensures { IfOk result (λ out. IsUnitList count at out.items) }
 {
@@ -48,7 +47,7 @@ fn unit_numbers(alloc: Global, count: usize, at: usize) -> Result<Vec<i64>, OutO
     Ok(out)
 }
 
-/// The deviation of the line at a place and this value.
+/// The deviation of the outside line at a place, plus this value.
 pub(crate) fn unit_sum(
     alloc: Global,
     count: usize,
@@ -93,7 +92,7 @@ pub(crate) fn next_sum(alloc: Global, pivot: &Pivot, sum: &Sum) -> Result<Sum, S
     Ok(sum_of(numbers, value))
 }
 
-/// The sum of a line's deviation before an exchange: its own where it is outside.
+/// The sum of a line's deviation before an exchange. An outside line's is the line itself.
 pub(crate) fn line_before(alloc: Global, line: LineAt<'_>) -> Result<Sum, OutOfMemory>
     requires { IsSizedLine line.count line.inside.now }
     ensures sized { IfOk result (IsSized line.entry.count) }

@@ -1,4 +1,4 @@
-// How the sum of a level's first rows stands after an exchange.
+// Whether the sum of a level's first rows fits after an exchange.
 ghost use Rattle.std.specs.Prelude.{◌≡◌, ◌<◌, ◌≢◌, cond, nat_eq, true, false, length, take};
 ghost use Rattle.std.specs.Prelude.{List, Option, IfOk, IfErr, IfSome, IfNone};
 ghost use Rattle.problem_core.specs.Layout.{Problem};
@@ -27,14 +27,14 @@ use path_lines::{Inside, Pivot, SumStop};
 use problem_core::Level;
 use std::alloc::Global;
 
-// 1 for a line of the level at the place.
+// 1 for a line of the level at the place, or else 0.
 fn one_of(facts: LineFacts, place: usize) -> usize
     ensures { result ≡ cond (nat_eq facts.level place) 1 0 }
 {
     if facts.level == place { 1 } else { 0 }
 }
 
-// How many lines there are up to the so-many-th of the level, if it has as many.
+// How many lines there are up to the one with this count in the level, if the level has as many.
 fn end_of_first(lines: &[LineFacts], place: usize, first: usize) -> Option<usize>
     ensures some { IfSome result (λ end. size_in place (take end lines.now) ≡ first) }
     ensures none { IfNone result (size_in place lines.now < first) }
@@ -53,7 +53,7 @@ fn end_of_first(lines: &[LineFacts], place: usize, first: usize) -> Option<usize
     }
 }
 
-/// The lines of the level at a place that come before an end.
+/// The lines of the level at a place, before an end.
 #[derive(Clone, Copy)]
 pub(crate) struct FirstLines {
     pub place: usize,
@@ -69,7 +69,7 @@ fn is_first(lines: &[LineFacts], firsts: FirstLines, at: usize) -> bool
     at < firsts.end && lines[at].level == firsts.place
 }
 
-// The line at a place after the exchange, if it is one of these.
+// The line at a place after the exchange, if it is one of them.
 fn first_line(
     alloc: Global,
     last: Last<'_>,
@@ -120,7 +120,7 @@ fn first_lines(
     Ok(next)
 }
 
-// How a sum stands of which already so many rows do not fit.
+// Whether the sum fits, if already so many rows do not: the whole sum of `first` rows, or a part of it.
 fn stop_of(count: u32, first: u32) -> Fit
     ensures whole { count ≡ first → result ≡ fits.Unfit }
     ensures part { count ≢ first → result ≡ fits.NoRoom }
@@ -132,7 +132,7 @@ fn stop_of(count: u32, first: u32) -> Fit
     }
 }
 
-// How the sum of a level's first rows stands at a corner of which their lines are kept.
+// Whether the sum of a level's first rows fits at a corner at which their lines are kept.
 fn rows_at(
     alloc: Global,
     corner: CornerLines<'_>,
@@ -150,7 +150,7 @@ fn rows_at(
     }
 }
 
-/// How the sum of the first rows of a level stands after the exchange.
+/// Whether the sum of the first rows of a level fits after the exchange.
 pub(crate) fn rows_fit(
     alloc: Global,
     last: Last<'_>,

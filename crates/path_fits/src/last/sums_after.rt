@@ -1,4 +1,4 @@
-// How levels stand after an exchange.
+// Whether levels fit after an exchange.
 ghost use Rattle.std.specs.Prelude.{List, IfOk};
 ghost use Rattle.problem_core.specs.declared.parts.Mark.{Mark};
 ghost use Rattle.problem_core.specs.declared.stops.What.TheVariants.{Level as LevelOf};
@@ -12,7 +12,7 @@ use path_levels::{LevelRow, LineExchange, Tableau, next_level};
 use problem_core::{Level, Problem};
 use std::alloc::Global;
 
-/// How a level stands after the exchange.
+/// Whether a level fits after the exchange.
 pub(crate) fn level_fit(
     alloc: Global,
     p: &Problem,

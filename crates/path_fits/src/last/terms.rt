@@ -31,8 +31,8 @@ use path_lines::{
 use problem_core::{Mark, Problem, Row, RowName, Side, Term};
 use std::alloc::Global;
 
-/// Why the sum of terms is not made: an attribute does not fit, or the sum of so many of the first terms, or
-/// memory is wanting.
+/// Why the sum of terms is not made: an attribute does not fit, the sum of so many of the first terms does
+/// not, or memory has run out.
 #[derive(Clone, Copy)]
 pub(crate) enum TermsStop {
     UnfitAttr(u32),
@@ -66,7 +66,7 @@ fn plus_term(alloc: Global, sum: &Sum, by: i64, more: &Sum) -> Result<Sum, SumSt
     Ok(sum_of(numbers, value))
 }
 
-// The numbers of a sum and of `by` times another one.
+// The numbers of a sum plus `by` times another one.
 fn joined_numbers(alloc: Global, sum: &Sum, by: i64, more: &Sum) -> Result<Wide, OutOfMemory>
     requires sum { IsSized (length sum.now.by.items) sum.now }
     requires more { IsSized (length sum.now.by.items) more.now }
@@ -92,7 +92,7 @@ fn no_terms(alloc: Global, count: usize) -> Result<Sum, OutOfMemory>
     unit_sum(alloc, count, count, zero)
 }
 
-// The sum with one term more, which is the term at this place.
+// The sum with one more term, the term at this place.
 fn one_more(alloc: Global, sum: &Sum, by: i64, more: &Sum, at: usize) -> Result<Sum, TermsStop>
     requires sum { IsSized (length sum.now.by.items) sum.now }
     requires more { IsSized (length sum.now.by.items) more.now }
@@ -128,7 +128,7 @@ fn attr_of_term(alloc: Global, case: PivotCase<'_>, attr: u32) -> Result<Sum, Te
     }
 }
 
-/// The sum of the terms after the exchange, or which of them stops it.
+/// The sum of the terms after the exchange, or the term that stops it.
 pub(crate) fn terms_after(
     alloc: Global,
     case: PivotCase<'_>,
@@ -163,7 +163,7 @@ fn less_fits(value: Frac, constant: Frac) -> bool
     true
 }
 
-// Where a sum of fewer terms does not fit, it is a part.
+// Whether the sum of `first` terms fits, if that of the first `j` does not: with fewer terms it is a part.
 fn stopped_fit(j: usize, first: usize) -> Fit
     ensures same { j ≡ first → result ≡ fits.Unfit }
     ensures other { j ≢ first → result ≡ fits.NoRoom }
@@ -171,14 +171,14 @@ fn stopped_fit(j: usize, first: usize) -> Fit
     if j == first { Fit::Unfit } else { Fit::NoRoom }
 }
 
-// So many of a row's first terms.
+// The first terms of a row, so many.
 #[derive(Clone, Copy)]
 struct Sought<'a> {
     row: &'a Row,
     first: usize,
 }
 
-// How the sum of so many of a row's terms stands after the exchange.
+// Whether the sum of so many of a row's terms fits after the exchange.
 fn some_fit(alloc: Global, case: PivotCase<'_>, sought: Sought<'_>) -> Result<Fit, OutOfMemory>
     requires case { IsPivotCase case }
     requires terms { AreKnownTerms case.p.now sought.row.now.terms }
@@ -195,7 +195,7 @@ fn some_fit(alloc: Global, case: PivotCase<'_>, sought: Sought<'_>) -> Result<Fi
     }
 }
 
-// How the sum of all of a row's terms less its constant stands after the exchange, where the row is over.
+// Whether the sum of all of a row's terms less its constant fits after the exchange, if the row is over.
 fn whole_fit(alloc: Global, case: PivotCase<'_>, r: &Row) -> Result<Fit, OutOfMemory>
     requires case { IsPivotCase case }
     requires terms { AreKnownTerms case.p.now r.now.terms }
@@ -219,7 +219,6 @@ fn whole_fit(alloc: Global, case: PivotCase<'_>, r: &Row) -> Result<Fit, OutOfMe
     }
 }
 
-// The over mark of a row.
 fn over_mark_of(id: u32) -> Mark
     ensures { result ≡ over_mark id }
 {
@@ -259,7 +258,7 @@ pub(crate) struct FirstTerms {
     pub first: u32,
 }
 
-/// How the sum of the first terms of a row stands after the exchange.
+/// Whether the sum of the first terms of a row fits after the exchange.
 pub(crate) fn terms_fit(
     alloc: Global,
     case: PivotCase<'_>,

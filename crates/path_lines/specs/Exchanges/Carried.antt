@@ -14,12 +14,12 @@ use Rattle.corner_lines.specs.LineEquations.{IsLineEquation, IsLineSum, IsUnfitL
 use Rattle.path_lines.specs.Numbers.{AreLowest, AreUnfit, IsCombined, IsReplaced}
 use Rattle.path_lines.specs.Tables.{line_count, name_at, numbers_of}
 
--- the entering line has no number in its own equation
+-- the numbers, with 0 for the entering line
 abbrev pub without : RowName → (RowName → ℤ) → RowName → ℤ
 without enter by name = cond (nat_eq (place_of name Under) (place_of enter Under)) (pos 0) (by name)
 
--- the pivot: the lines cancel by its numbers, of which the entering line's is `-size`, and the others are its
--- equation at the next corner
+-- the pivot: the lines cancel by its numbers. The entering line's is `-size`, and the others are its equation
+-- at the next corner
 pub record IsPivotOf (p : Problem) (at : List Mark) (s : Swap) (size : ℕ) (pivot : List ℤ)
     (enters : Fraction) : Type 0 where
   pub count : length pivot ≡ line_count p
@@ -27,7 +27,7 @@ pub record IsPivotOf (p : Problem) (at : List Mark) (s : Swap) (size : ℕ) (piv
   pub equation : IsLineEquation p (exchanged s at) (deviation s.enter.row) size
       (without s.enter.row (numbers_of (lines p) pivot)) enters.num enters.den
 
--- a quantity's sum with the pivot put in, in lowest terms, is its equation at the next corner
+-- a quantity's sum with the pivot substituted, in lowest terms, is its equation at the next corner
 abbrev pub CarriedIsEquation : Type 0
 CarriedIsEquation = (p : Problem) (at : List Mark) (s : Swap) (quantity : (ℕ → ℤ) → ℤ) (own size : ℕ)
     (by pivot out part : List ℤ) (low : ℕ) (value enters next : Fraction) → IsWhole p
@@ -40,7 +40,7 @@ CarriedIsEquation = (p : Problem) (at : List Mark) (s : Swap) (quantity : (ℕ �
     (sum_den value (pos own) enters)
     → IsLineEquation p (exchanged s at) quantity low (numbers_of (lines p) part) next.num next.den
 
--- the leaving line's numbers, with this sign, and its own one in its place
+-- the leaving line's numbers with this sign, and its own number in its place
 pub record IsResolvedList (p : Problem) (leave : RowName) (side : Side) (own : ℕ) (by pivot : List ℤ) : Type 0
   where
     pub count : length pivot ≡ line_count p
@@ -48,7 +48,7 @@ pub record IsResolvedList (p : Problem) (leave : RowName) (side : Side) (own : �
     pub others : All (λ l. l.name ≢ leave → numbers_of (lines p) pivot l.name
         ≡ neg_ℤ (sign_of side *ℤ numbers_of (lines p) by l.name)) (lines p)
 
--- they are the pivot, where the sign is that of the entering line's number
+-- they are the pivot, if the sign is that of the entering line's number
 abbrev pub LeavingIsPivot : Type 0
 LeavingIsPivot = (p : Problem) (at : List Mark) (s : Swap) (side : Side) (own size : ℕ) (by pivot : List ℤ)
     (value enters : Fraction) → IsWhole p → IsCorner p at → IsMarkAt p (place s.enter)
@@ -69,7 +69,7 @@ EnteringIsEquation = (p : Problem) (at : List Mark) (s : Swap) (size low e : ℕ
     → IsLineEquation p (exchanged s at) (deviation s.enter.row) low (numbers_of (lines p) part)
     enters.num enters.den
 
--- where no lowest terms of the list fit, no lowest terms of the line's sum do, whatever its value is
+-- if no lowest terms of the list fit, no lowest terms of the line's sum do, whatever its value is
 abbrev pub UnfitListIsUnfit : Type 0
 UnfitListIsUnfit = (p : Problem) (own : ℕ) (out : List ℤ) (num : ℤ) (den : ℕ) → IsWhole p
     → length out ≡ line_count p → AreUnfit (pos own) out

@@ -64,12 +64,12 @@ next_marks p pivot at = exchanged (swap_of p pivot.step) at
 abbrev pub HasUnfit : Problem → List Mark → Type 0
 HasUnfit p at = (what : What) × IsUnfitWhat p at what
 
--- a line's sum at the next corner, wherever the other is its sum before
+-- a line's sum at the next corner, whenever the other is its sum before
 abbrev pub IsNextSum : Pivot → Fraction → Sum → Sum → Type 0
 IsNextSum pivot enters sum next = (p : Problem) (at : List Mark) (name : RowName) → IsPivotAt p at pivot
     → IsEnteredBy pivot enters → IsSumOf p at name sum → IsSumOf p (next_marks p pivot at) name next
 
--- something does not fit there, wherever this was the sum of a line whose mark is inside there
+-- something does not fit there, whenever this was the sum of a line whose mark is inside there
 abbrev pub IsUnfitNextSum : Pivot → Fraction → Sum → Type 0
 IsUnfitNextSum pivot enters sum = (p : Problem) (at : List Mark) (mark : Mark) → IsPivotAt p at pivot
     → IsEnteredBy pivot enters → IsSumOf p at mark.row sum → IsIn (place mark) (next_marks p pivot at)
@@ -85,13 +85,13 @@ abbrev pub LeadsToUnfit : Pivot → Fraction → Type 0
 LeadsToUnfit pivot enters = (p : Problem) (at : List Mark) → IsPivotAt p at pivot
     → IsEnteredBy pivot enters → HasUnfit p (next_marks p pivot at)
 
--- what is kept of the line at the place is so at the next corner too
+-- `next` is kept of the line at the next corner, whenever `old` is at this one
 abbrev pub IsNextLine : Pivot → Fraction → ℕ → Option Inside → Option Inside → Type 0
 IsNextLine pivot enters k old next = (p : Problem) (at : List Mark) → IsPivotAt p at pivot
     → IsEnteredBy pivot enters → k < line_count p → IsLineAt p at (name_at p k) old
     → IsLineAt p (next_marks p pivot at) (name_at p k) next
 
--- something does not fit at the next corner, wherever this is kept of the line at the place
+-- something does not fit at the next corner, whenever `old` is kept of the line at this one
 abbrev pub IsUnfitNext : Pivot → Fraction → ℕ → Option Inside → Type 0
 IsUnfitNext pivot enters k old = (p : Problem) (at : List Mark) → IsPivotAt p at pivot
     → IsEnteredBy pivot enters → k < line_count p → IsLineAt p at (name_at p k) old
@@ -107,7 +107,7 @@ abbrev pub AreUnfitNext : Pivot → Fraction → List (Option Inside) → Type 0
 AreUnfitNext pivot enters kept = (p : Problem) (at : List Mark) → IsPivotAt p at pivot
     → IsEnteredBy pivot enters → AreLines p at kept → HasUnfit p (next_marks p pivot at)
 
--- the lines after an exchange of the corner, at a corner again
+-- the lines after an exchange, at each corner with these lines; the marks after it are a corner again
 abbrev pub LeadTo : Step → List (Option Inside) → List (Option Inside) → Type 0
 LeadTo step kept next = (p : Problem) (at : List Mark) → IsThere p at → AreLines p at kept
     → IsExchange p at (swap_of p step)
@@ -118,7 +118,7 @@ abbrev pub LeadToUnfit : Step → List (Option Inside) → Type 0
 LeadToUnfit step kept = (p : Problem) (at : List Mark) → IsThere p at → AreLines p at kept
     → IsExchange p at (swap_of p step) → HasUnfit p (exchanged (swap_of p step) at)
 
--- it is the sum of the leaving line, which is another than the entering one
+-- it is the sum of the leaving line, which differs from the entering one
 abbrev pub IsLeavingBy : Step → List (Option Inside) → Sum → Type 0
 IsLeavingBy step kept leaving = (inside : Inside) × (inside.sum ≡ leaving) × (step.enter.at ≢ step.leave.at)
     × (step.leave.at < length kept) × ((d : Option Inside) → get_or kept step.leave.at d ≡ Some inside)

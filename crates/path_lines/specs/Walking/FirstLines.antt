@@ -22,7 +22,7 @@ pub record IsTermsSum (p : Problem) (r : Row) (j : ℕ) (by : List ℤ) (value :
   pub small : All (λ z. unsigned_abs z ≤ j * COEFFICIENT_LIMIT) by
   pub sum : IsLineSum p (over_marks p) (first_terms r j) 1 (numbers_of (lines p) by) value.num value.den
 
--- a coefficient more can be added to each of the numbers
+-- each of the numbers has room for one more coefficient
 abbrev pub HaveRoom : List ℤ → Type 0
 HaveRoom numbers = All (λ z. unsigned_abs z ≤ TERM_LIMIT * COEFFICIENT_LIMIT) numbers
 
@@ -30,7 +30,7 @@ HaveRoom numbers = All (λ z. unsigned_abs z ≤ TERM_LIMIT * COEFFICIENT_LIMIT)
 abbrev pub HasUnfitTerms : Problem → Row → Type 0
 HasUnfitTerms p r = (j : ℕ) × IsUnfitTerms p (over_marks p) (over_mark r.id) j
 
--- the sum with the term, wherever it is the next one
+-- the sum with the term, whenever it is the next one
 abbrev pub IsOneTermMore : Problem → Term → Terms → Terms → Type 0
 IsOneTermMore p term sum next = (r : Row) (j : ℕ) (d : Term) → j < length r.terms → get_or r.terms j d ≡ term
     → IsTermsSum p r j sum.by.items sum.value → IsTermsSum p r (j + 1) next.by.items next.value
