@@ -1,4 +1,4 @@
--- The sizes of what is kept of a corner.
+-- The sizes of a corner's kept parts.
 use Rattle.std.specs.Prelude.{◌≡◌, length}
 use Rattle.path_lines.specs.Sides.{IsWithin}
 use Rattle.path_lines.specs.Tables.{AreSized}
@@ -18,7 +18,7 @@ pub record IsSizedCorner (corner : CornerLines) : Type 0 where
   pub outline : HasOutline corner
   pub lines_are : AreSized corner.lines.now
 
--- the exchange is one of two of the lines of a sized corner
+-- the exchange is of two lines of a sized corner
 pub record IsSizedExchange (exchange : LineExchange) : Type 0 where
   pub corner : IsSizedCorner exchange.corner
   pub step : IsWithin (length exchange.corner.lines.now) exchange.step

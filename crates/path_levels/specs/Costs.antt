@@ -1,4 +1,4 @@
--- What outside marks cost at the levels of a corner, by places.
+-- The costs of outside marks at the levels of a corner, by places.
 use Rattle.std.specs.Prelude.{◌≡◌, ℕ, ◌*◌, ◌^◌, ◌<◌, cond, nat_eq, List, length, ℤ, pos}
 use Rattle.std.specs.Prelude.{◌+ℤ◌, ◌-ℤ◌, ◌<ℤ◌, unsigned_abs}
 use Rattle.problem_core.specs.declared.parts.Side.{Side}
@@ -14,11 +14,12 @@ use Rattle.path_levels.specs.declared.columns.Units.{Units}
 use Rattle.path_levels.specs.Shares.{share_of}
 use Rattle.path_levels.specs.Levels.{IsSizedLevel}
 
--- what a deviation on this side counts at the level at a place, whose cost is taken `own * unit` times
+-- the count of a deviation on this side at the level at a place, if the level's cost is taken `own * unit`
+-- times
 abbrev pub counted : Side → (place unit own : ℕ) → LineFacts → ℕ
 counted side place unit own facts = cond (nat_eq facts.level place) (own * share_of side unit facts) 0
 
--- the reduced cost of an outside mark that counts so much, and whose line has the number y
+-- the reduced cost of an outside mark with this count, whose line has the number y
 abbrev pub reduced_by : Side → ℕ → ℤ → ℤ
 reduced_by Under count y = pos count -ℤ y
 reduced_by Over count y = pos count +ℤ y
@@ -27,7 +28,7 @@ reduced_by Over count y = pos count +ℤ y
 abbrev pub cost_of : Side → (place unit own : ℕ) → LineFacts → ℤ → ℤ
 cost_of side place unit own facts y = reduced_by side (counted side place unit own facts) y
 
--- in the row of the level at a place, of the line at another
+-- by the row of the level at `place`, for the line at `at`
 abbrev pub cost_in : Side → LineFacts → (at place : ℕ) → LevelSum → ℤ
 cost_in side facts at place sum =
     cost_of side place (unsigned_abs sum.unit) (unsigned_abs sum.own) facts (number_at sum.by.items at)

@@ -1,4 +1,4 @@
--- What is kept of the levels at a corner.
+-- The kept rows of levels at a corner.
 use Rattle.std.specs.Prelude.{◌≡◌, ◌⊎◌, ℕ, ◌<◌, List, length, get_or, pos, ◌<ℤ◌, ◌*ℤ◌, unsigned_abs, All}
 use Rattle.frac_core.specs.Fraction.{IsFitting}
 use Rattle.problem_core.specs.declared.parts.Mark.{Mark}
@@ -22,7 +22,7 @@ pub record IsSizedLevel (count : ℕ) (sum : LevelSum) : Type 0 where
   pub scale : IsFitting (sum.own *ℤ sum.unit)
   pub fits : All IsFitting sum.by.items
 
--- so it is with the sum of each level
+-- each level's sum is sized
 abbrev pub AreSizedLevels : ℕ → List LevelSum → Type 0
 AreSizedLevels count levels = All (IsSizedLevel count) levels
 
@@ -37,7 +37,7 @@ pub record IsLevelSum (p : Problem) (at : List Mark) (level : ℕ) (sum : LevelS
   pub inside : All (λ l. IsOutsideLine at l.name ⊎ (numbers_of (lines p) sum.by.items l.name ≡ pos 0))
       (lines p)
 
--- each level of the outline is as it is kept
+-- each level of the outline has its kept row
 pub record AreLevels (p : Problem) (at : List Mark) (outline : Outline) (levels : List LevelSum)
     : Type 0 where
   pub count : length levels ≡ length outline.levels.items

@@ -61,6 +61,6 @@ pub record IsSizedFacts (levels : ℕ) (facts : LineFacts) : Type 0 where
   pub priced : IsPriced facts
   pub level : facts.level < levels
 
--- so it is with each line of the outline, and its level is one of the outline's
+-- each line of the outline has such facts, and its level is one of the outline's
 abbrev pub IsSizedOutline : Outline → Type 0
 IsSizedOutline outline = All (IsSizedFacts (length outline.levels.items)) outline.lines.items

@@ -1,4 +1,4 @@
--- A level that has its first lines alone.
+-- A level of which only the first lines have joined.
 use Rattle.std.specs.Prelude.{◌≡◌, ℕ, ◌+◌, ◌<◌, ◌≤◌, List, length, map, get_or, slice_index_or, pos, All}
 use Rattle.std.specs.Prelude.{Option}
 use Rattle.problem_core.specs.Window.{zero_fraction}
@@ -18,7 +18,7 @@ use Rattle.path_levels.specs.Outlines.{IsOutline, number_at}
 use Rattle.path_levels.specs.Levels.{IsLevelSum}
 use Rattle.path_levels.specs.Rows.{level_place}
 
--- a row of no numbers
+-- a row without numbers
 pub record IsEmptySum (count : ℕ) (sum : LevelSum) : Type 0 where
   pub unit : sum.unit ≡ pos 1
   pub own : sum.own ≡ pos 1
@@ -26,7 +26,7 @@ pub record IsEmptySum (count : ℕ) (sum : LevelSum) : Type 0 where
   pub count_is : length sum.by.items ≡ count
   pub cost : sum.cost ≡ zero_fraction
 
--- the stay's equation, with the other sign where the under mark is inside
+-- the stay's equation, with the other sign if the under mark is inside
 pub record IsStaySum (inside : Inside) (sum : LevelSum) : Type 0 where
   pub unit : sum.unit ≡ pos 1
   pub own : sum.own ≡ inside.sum.own
@@ -57,8 +57,8 @@ abbrev pub IsPartSum : Problem → List Mark → Outline → (place upto : ℕ) 
 IsPartSum p at outline place upto sum = IsLevelSum (part p (number_at outline.levels.items place) upto) at
     (number_at outline.levels.items place) sum
 
--- what holds where the line at a place, and those of its level before it, are kept, and the sum is the row of
--- the level with those before it
+-- what holds if the line at a place, and the lines of its level before it, are kept, and the sum is the row
+-- of the level with the lines before it
 abbrev pub WithPart : CornerLines → (at : ℕ) → LevelSum → (Problem → List Mark → ℕ → Type 0) → Type 0
 WithPart corner at old holds = (p : Problem) (marks : List Mark) (place : ℕ)
     → level_there corner.outline.now at ≡ place

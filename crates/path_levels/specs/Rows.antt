@@ -35,7 +35,7 @@ pub record AreKept (p : Problem) (at : List Mark) (outline : Outline) (kept : Li
   pub there : IsThere p at
   pub lines_are : AreLines p at kept
 
--- of the first so many lines of the level each one is kept
+-- each of the first so many lines of the level is kept
 pub record AreKeptOf (p : Problem) (at : List Mark) (outline : Outline) (place most : ℕ)
     (kept : List (Option Inside)) : Type 0 where
   pub outline_is : IsOutline p outline
@@ -61,11 +61,11 @@ pub record IsFirstOfAll (p : Problem) (at : List Mark) (level : Level) (j : ℕ)
   pub before : (other : Level) (i : ℕ) → ComesBefore p (Rows other i) (Rows level j)
       → IsUnfitRows p at other i → ⊥
 
--- no sum of first rows does not fit
+-- every sum of first rows fits
 abbrev pub AllRowsFit : Problem → List Mark → Type 0
 AllRowsFit p at = (level : Level) (j : ℕ) → IsUnfitRows p at level j → ⊥
 
--- first rows of a level do not fit, or memory is wanting
+-- first rows of a level do not fit, or memory has run out
 abbrev pub RowsStop : Type 0
 RowsStop = Stop UnfitRows
 
@@ -81,7 +81,7 @@ IsLevelsStop corner OutOfMemory = Unit {0}
 
 -- ---- one level
 
--- the sum is the row of the level at the place, where so many lines are all of it, and its first rows fit
+-- the sum is the row of the level at the place, if it has no more lines than so many, and its first rows fit
 pub record IsRowsSum (p : Problem) (at : List Mark) (outline : Outline) (place most : ℕ) (sum : LevelSum)
     : Type 0 where
   pub whole : level_size p (number_at outline.levels.items place) ≤ most
@@ -89,7 +89,7 @@ pub record IsRowsSum (p : Problem) (at : List Mark) (outline : Outline) (place m
   pub fitting : (level : Level) → IsLevelAt p level (number_at outline.levels.items place)
       → AreFittingRows p at level most
 
--- what holds wherever the first so many lines of the level at the place are kept
+-- what holds whenever the first so many lines of the level at the place are kept
 abbrev pub WithFirstLines : CornerLines → (place most : ℕ) → (Problem → List Mark → Type 0) → Type 0
 WithFirstLines corner place most holds = (p : Problem) (at : List Mark)
     → AreKeptOf p at corner.outline.now place most corner.lines.now → holds p at

@@ -32,7 +32,7 @@ fn number_before(line: &LineFacts, pivot: &Pivot, row: LevelRow<'_>) -> i64
     row.sum.by[pivot.step.enter.at]
 }
 
-/// The same less what the line counts from now on.
+/// The same less the line's count after the exchange.
 pub fn entering_number(line: &LineFacts, pivot: &Pivot, row: LevelRow<'_>) -> i64
     requires line { IsPriced line.now }
     requires sum { IsScaled row.sum.now }
@@ -66,14 +66,14 @@ fn quotient(number: i64, divisor: i64) -> i64
     number / divisor
 }
 
-/// By what a row and a pivot are taken for the entering line to cancel.
+/// The factors of a row and of a pivot with which the entering line cancels.
 #[derive(Clone, Copy)]
 pub struct Factors {
     pub row: i64,
     pub pivot: i64,
 }
 
-// The factors for a pivot of this size, where the entering line's number changes by n.
+// The factors for a pivot of this size, if the entering line's number changes by n.
 fn factors_of(size: i64, n: i64) -> Factors
     requires above { pos 0 <ℤ size }
     requires fits { IsFitting size }
@@ -114,7 +114,7 @@ fn leaving_number(line: &LineFacts, pivot: &Pivot, row: LevelRow<'_>, factors: F
     product(factors.row, stood) + product(number, factors.pivot)
 }
 
-// The row's numbers and the pivot's, so often, with this number at the leaving line.
+// The row's numbers and the pivot's, each times its factor, with this number at the leaving line.
 fn put_together(
     alloc: Global,
     pivot: &Pivot,

@@ -1,5 +1,5 @@
-// The columns of outside marks at a corner: what a mark costs at each level, strongest first, and whether the
-// first of these costs that is not 0 is below 0.
+// The columns of outside marks at a corner: a mark's cost at each level, strongest first, and whether the
+// first of these costs that isn't 0 is below 0.
 ghost use Rattle.std.specs.Prelude.{◌≡◌, ◌↔◌, ◌<◌, ◌^◌, ◌<ℤ◌, ℕ, pos, length, get_or, unsigned_abs};
 ghost use Rattle.std.specs.Prelude.{IsTrue, [], false};
 ghost use Rattle.problem_core.specs.Corners.{HasNegativeColumn, NoNegativeColumn};
@@ -20,14 +20,14 @@ use crate::tableau::{CornerLines, Tableau};
 use path_lines::Spot;
 use problem_core::Side;
 
-/// The parts of a level's row that its costs are counted by.
+/// The unit and the own number of a level's row, from which its costs follow.
 #[derive(Clone, Copy)]
 pub(crate) struct Units {
     pub unit: i64,
     pub own: u128,
 }
 
-// What a deviation of the line on this side counts at the line's level.
+// The count of a deviation of the line on this side, at the line's level.
 fn share(facts: &LineFacts, side: Side, unit: i64) -> u128
     requires { pos 0 <ℤ facts.now.scale }
     ensures { result ≡ share_of side (unsigned_abs unit) facts.now }
@@ -36,7 +36,7 @@ fn share(facts: &LineFacts, side: Side, unit: i64) -> u128
     u128::from(unit.unsigned_abs()) * weight / u128::from(facts.scale.unsigned_abs())
 }
 
-// The same `own` times, at the level at a place.
+// The same times the row's own number, at the level at a place.
 fn counted(facts: &LineFacts, side: Side, place: usize, units: Units) -> u128
     requires facts { IsPriced facts.now }
     requires units { AreSmall units }
@@ -50,7 +50,7 @@ fn counted(facts: &LineFacts, side: Side, place: usize, units: Units) -> u128
     }
 }
 
-// The reduced cost of an outside mark that counts so much, and whose line has this number.
+// The reduced cost of an outside mark with this count, whose line has this number.
 fn reduced(side: Side, count: u128, number: i128) -> i128
     requires count { count < 2 ^ 94 }
     requires number { unsigned_abs number < 2 ^ 126 }
@@ -63,7 +63,7 @@ fn reduced(side: Side, count: u128, number: i128) -> i128
     }
 }
 
-/// The reduced cost of an outside mark at the level at a place, where its line has this number.
+/// The reduced cost of an outside mark at the level at a place. Its line has this number.
 pub(crate) fn cost(facts: &LineFacts, side: Side, place: usize, units: Units, number: i128) -> i128
     requires facts { IsPriced facts.now }
     requires units { AreSmall units }
@@ -73,7 +73,7 @@ pub(crate) fn cost(facts: &LineFacts, side: Side, place: usize, units: Units, nu
     reduced(side, counted(facts, side, place, units), number)
 }
 
-/// That of a line's mark, where it is outside.
+/// The reduced cost of the line's mark, if it is outside.
 pub(crate) fn cost_at(facts: &LineFacts, spot: Spot, row: LevelRow<'_>) -> i128
     requires facts { IsPriced facts.now }
     requires sum { IsSizedLevel (length row.sum.now.by.items) row.sum.now }
@@ -88,7 +88,7 @@ pub(crate) fn cost_at(facts: &LineFacts, spot: Spot, row: LevelRow<'_>) -> i128
     cost(facts, spot.side, place, units, i128::from(sum.by[spot.at]))
 }
 
-// Whether the first of the mark's reduced costs that is not 0 is below 0.
+// Whether the first of the mark's reduced costs that isn't 0 is below 0.
 fn is_negative_first(facts: &LineFacts, levels: &[LevelSum], spot: Spot) -> bool
     requires facts { IsPriced facts.now }
     requires levels { (k : ℕ) (d : KeptSum) → k < length levels.now

@@ -1,4 +1,4 @@
-// The signs of columns after an exchange, where not all has to fit.
+// The signs of columns after an exchange at which not everything has to fit.
 ghost use Rattle.std.specs.Prelude.{◌≡◌, ◌↔◌, ◌<◌, ℕ, length, get_or, IfOk, IsTrue, [], false, true};
 ghost use Rattle.std.specs.Prelude.{All};
 ghost use Rattle.problem_core.specs.Corners.{IsIn, NoNegativeColumn, place_of};
@@ -33,14 +33,6 @@ struct WideLevel {
     wide: Wide,
 }
 
-// The row of a level before it is divided, with its unit.
-fn wide_level(unit: i64, wide: Wide) -> WideLevel
-    ensures unit { result.unit ≡ unit }
-    ensures wide { result.wide ≡ wide }
-{
-    WideLevel { unit, wide }
-}
-
 // The rows of all levels after an exchange, before they are divided.
 fn wide_levels(
     alloc: Global,
@@ -58,12 +50,13 @@ fn wide_levels(
     let mut out = Vec::with_capacity(alloc, levels.len())?;
     for (place, sum) in levels.iter().enumerate() {
         let wide = next_level_numbers(alloc, outline, pivot, LevelRow { place, sum })?;
-        out.push(wide_level(sum.unit, wide))?;
+        let unit = sum.unit;
+        out.push(WideLevel { unit, wide })?;
     }
     Ok(out)
 }
 
-// The reduced cost of a line's mark at the level at a place, times a number above 0, where it is outside.
+// The reduced cost of a line's mark at the level at a place, times a number above 0, if it is outside.
 fn wide_cost_at(facts: &LineFacts, spot: Spot, place: usize, level: &WideLevel) -> i128
     requires facts { IsPriced facts.now }
     requires level { HasWideLine spot.at level.now }
@@ -76,7 +69,7 @@ fn wide_cost_at(facts: &LineFacts, spot: Spot, place: usize, level: &WideLevel) 
     cost(facts, spot.side, place, units, level.wide.by[spot.at])
 }
 
-// Whether the first of the mark's reduced costs that is not 0 is below 0.
+// Whether the first of the mark's reduced costs that isn't 0 is below 0.
 fn is_negative_first_after(facts: &LineFacts, next: &[WideLevel], spot: Spot) -> bool
     requires facts { IsPriced facts.now }
     requires next { (k : ℕ) (d : KeptWide) → k < length next.now → HasWideLine spot.at (get_or next.now k d) }
@@ -93,7 +86,7 @@ fn is_negative_first_after(facts: &LineFacts, next: &[WideLevel], spot: Spot) ->
     false
 }
 
-// Whether that is so of one of the line's marks.
+// Whether one of the line's marks has such a cost.
 fn has_negative_first_after(facts: &LineFacts, next: &[WideLevel], at: usize) -> bool
     requires facts { IsPriced facts.now }
     requires next { (k : ℕ) (d : KeptWide) → k < length next.now → HasWideLine at (get_or next.now k d) }
@@ -126,8 +119,8 @@ fn is_outside_after(lines: &[Option<Inside>], step: Step, at: usize) -> bool
     }
 }
 
-// Whether the column of a mark of the line is negative after the exchange, where these are the levels' rows
-// there.
+// Whether the column of a mark of the line is negative after the exchange, at which these are the levels'
+// rows.
 fn has_negative_after(exchange: LineExchange<'_>, next: &[WideLevel], at: usize) -> bool
     requires corner { HasOutline exchange.corner }
     requires step { IsWithin (length exchange.corner.lines.now) exchange.step }
@@ -144,7 +137,7 @@ fn has_negative_after(exchange: LineExchange<'_>, next: &[WideLevel], at: usize)
     }
 }
 
-// Whether no column is negative after the exchange, where these are the levels' rows there.
+// Whether no column is negative after the exchange, at which these are the levels' rows.
 fn has_no_negative_after(exchange: LineExchange<'_>, next: &[WideLevel]) -> bool
     requires corner { HasOutline exchange.corner }
     requires step { IsWithin (length exchange.corner.lines.now) exchange.step }
@@ -161,7 +154,7 @@ fn has_no_negative_after(exchange: LineExchange<'_>, next: &[WideLevel]) -> bool
     true
 }
 
-/// Whether no column is negative after an exchange, whether or not all fits there.
+/// Whether no column is negative after an exchange, even if not everything fits there.
 pub fn has_no_negative_column_after(
     alloc: Global,
     exchange: LineExchange<'_>,
@@ -175,7 +168,7 @@ pub fn has_no_negative_column_after(
 {
     let pivot = match pivot_of(alloc, exchange.corner.lines, exchange.step) {
         Ok(pivot) => pivot,
-        // the step is no exchange, so that nothing is owed
+        // the step is no exchange, and the clause asks nothing
         Err(Stop::Refused(_)) => return Ok(true),
         Err(Stop::OutOfMemory) => return Err(OutOfMemory),
     };

@@ -1,4 +1,4 @@
-// What is judged at a corner of a path.
+// Whether a corner of a path is sound, or an end, or may be left by an exchange.
 ghost use Rattle.std.specs.Prelude.{◌≡◌, ◌↔◌, ◌<◌, ◌<ℤ◌, pos, length, slice_index_or, List, IsTrue};
 ghost use Rattle.std.specs.Prelude.{Option, None, true};
 ghost use Rattle.problem_core.specs.Layout.{Problem};
@@ -42,7 +42,7 @@ fn is_above(cost: Frac) -> bool
     cost.num() > 0
 }
 
-// Whether the required rows cost, where this is the row of the first level.
+// Whether the required rows cost, if this is the row of the first level.
 fn is_costly(outline: &Outline, sum: &LevelSum) -> bool
     ensures required { result ≡ true → HasRequired outline.now }
     ensures above { (p : Problem) (at : List Mark) (lines : List (Option Kept))
@@ -63,7 +63,7 @@ fn costs_above(outline: &Outline, levels: &[LevelSum]) -> bool
     }
 }
 
-// Whether the reduced cost of a line's mark, where it is outside, is below 0 at the first level.
+// Whether the reduced cost of a line's mark, if it is outside, is below 0 at the first level.
 fn is_cost_below(facts: &LineFacts, spot: Spot, sum: &LevelSum) -> bool
     requires facts { IsPriced facts.now }
     requires sum { HasLine spot.at sum.now }
@@ -72,7 +72,7 @@ fn is_cost_below(facts: &LineFacts, spot: Spot, sum: &LevelSum) -> bool
     cost_at(facts, spot, LevelRow { place: 0, sum }) < 0
 }
 
-// Whether that of one of its marks is.
+// Whether the reduced cost of one of the line's marks is below 0 there.
 fn has_cost_below(facts: &LineFacts, at: usize, sum: &LevelSum) -> bool
     requires facts { IsPriced facts.now }
     requires sum { HasLine at sum.now }
@@ -83,7 +83,7 @@ fn has_cost_below(facts: &LineFacts, at: usize, sum: &LevelSum) -> bool
         || is_cost_below(facts, Spot { at, side: over }, sum)
 }
 
-// Whether the line is outside and a mark of it costs less than nothing there.
+// Whether the line is outside and one of its marks has a reduced cost below 0 there.
 fn is_line_below(line: &Option<Inside>, facts: &LineFacts, at: usize, sum: &LevelSum) -> bool
     requires facts { IsPriced facts.now }
     requires sum { HasLine at sum.now }
@@ -96,7 +96,7 @@ fn is_line_below(line: &Option<Inside>, facts: &LineFacts, at: usize, sum: &Leve
     }
 }
 
-// Whether no mark costs less than nothing at the first level, whose row this is.
+// Whether no outside mark has a reduced cost below 0 at the first level, whose row this is.
 fn has_no_negative_required(corner: CornerLines<'_>, sum: &LevelSum) -> bool
     requires corner { HasOutline corner }
     requires sum { IsSizedLevel (length corner.lines.now) sum.now }
@@ -113,7 +113,7 @@ fn has_no_negative_required(corner: CornerLines<'_>, sum: &LevelSum) -> bool
     true
 }
 
-// Whether the required rows cost, and no mark costs less than nothing at their level.
+// Whether the required rows cost, and no outside mark has a reduced cost below 0 at their level.
 fn is_refuted(tableau: Tableau<'_>) -> bool
     requires { HasSizedLevels tableau }
     ensures { WithTableau tableau.entry
@@ -126,7 +126,7 @@ fn is_refuted(tableau: Tableau<'_>) -> bool
     }
 }
 
-/// Whether what has to hold at each corner of a path does.
+/// Whether the corner is as each corner of a path must be.
 pub fn is_sound(dual: bool, tableau: Tableau<'_>) -> bool
     requires { HasSizedLevels tableau }
     ensures { WithTableau tableau.entry (λ p at. IsTrue result ↔ IsSound dual p at) }
@@ -151,8 +151,8 @@ pub fn is_end(dual: bool, tableau: Tableau<'_>) -> bool
     }
 }
 
-/// Whether a path may make an exchange there: of a mark with a negative column in, or with a negative value
-/// out.
+/// Whether a path may make this exchange there. A primal one brings in a mark with a negative column, a dual
+/// one takes out a mark with a negative value.
 pub fn may_swap(dual: bool, tableau: Tableau<'_>, step: Step) -> bool
     requires tableau { HasSizedLevels tableau }
     requires step { IsWithin (length tableau.corner.lines.now) step }

@@ -25,7 +25,7 @@ use path_lines::{Inside, Lowest, SumStop, Wide, combined, in_lowest_terms};
 use problem_core::Side;
 use std::alloc::Global;
 
-/// A level's row with a line more, in lowest terms. Its unit may not fit.
+/// A level's row with one more line, in lowest terms. Its unit may not fit.
 #[derive(Drop)]
 pub(crate) struct Draft {
     pub unit: i128,
@@ -54,7 +54,7 @@ fn weight(line: LineFacts) -> i64
     }
 }
 
-// How many times the unit is taken when the line joins.
+// By how many times the unit grows when the line joins.
 fn times(unit: i64, line: LineFacts) -> i64
     requires unit { pos 0 <ℤ unit }
     requires scale { pos 0 <ℤ line.scale }
@@ -66,7 +66,7 @@ fn times(unit: i64, line: LineFacts) -> i64
     over(part, common_divisor(part, unit))
 }
 
-// What a deviation with this cost counts in this unit.
+// The count of a deviation with this cost, in this unit.
 fn share(unit: i128, cost: i64, scale: i64) -> i128
     requires unit { pos 0 <ℤ unit }
     requires small { unsigned_abs unit < 2 ^ 72 }
@@ -85,7 +85,7 @@ fn product(a: i128, b: i128) -> i128
     a * b
 }
 
-// The same, so many times.
+// The count times the row's own number.
 fn count(unit: i128, own: i64, cost: i64, scale: i64) -> i128
     requires unit { pos 0 <ℤ unit }
     requires own { pos 0 <ℤ own }
@@ -99,7 +99,7 @@ fn count(unit: i128, own: i64, cost: i64, scale: i64) -> i128
     product(i128::from(own), share(unit, cost, scale))
 }
 
-// What the line's deviation counts in the level's row where this mark is inside, with the other sign.
+// The count of the line's deviation in the level's row if this mark is inside, with the other sign.
 fn counted(side: Side, line: LineFacts, unit: i128, own: i64) -> i128
     requires facts { IsPriced line }
     requires unit { pos 0 <ℤ unit }
@@ -128,7 +128,7 @@ fn grown(alloc: Global, old: &LevelSum, times: i64) -> Result<Wide, OutOfMemory>
     })
 }
 
-// The same with an inside line's sum, as often as it counts.
+// The numbers of a level in the new unit, with an inside line's sum times its count.
 fn with_sum(
     alloc: Global,
     old: &LevelSum,
@@ -176,7 +176,7 @@ fn joined_numbers(
     }
 }
 
-// What the line's deviation costs where this mark is inside.
+// The cost of the line's deviation if this mark is inside.
 fn cost_of(side: Side, line: LineFacts) -> i64
     requires { IsPriced line }
     ensures value { result ≡ cost_number side line }
@@ -240,8 +240,8 @@ pub(crate) fn joined(
     Ok(with_numbers(old.unit, times, numbers, cost))
 }
 
-// Whether a number fits.
-fn is_fitting(number: i128) -> bool
+/// Whether a number fits.
+pub(crate) fn is_fitting(number: i128) -> bool
     ensures { IsTrue result ↔ IsFitting number }
 {
     number.unsigned_abs() < PART_BOUND
@@ -265,7 +265,7 @@ fn difference(a: i128, b: i128) -> i128
     a - b
 }
 
-// Whether the one number less this one, and the other with it, fit.
+// Whether `under` less the number, and `over` with it, fit.
 fn are_both_fitting(under: i128, over: i128, number: i64) -> bool
     requires under { unsigned_abs under < 2 ^ 83 }
     requires over { unsigned_abs over < 2 ^ 83 }
@@ -276,7 +276,7 @@ fn are_both_fitting(under: i128, over: i128, number: i64) -> bool
     is_fitting(difference(under, number)) && is_fitting(sum(over, number))
 }
 
-// Whether both reduced costs of the line fit, where it has this number if it is outside.
+// Whether both reduced costs of the line fit. If it is outside, it has this number.
 fn are_fitting(line: LineFacts, kept: &Option<Inside>, unit: i128, own: i64, number: i64) -> bool
     requires facts { IsPriced line }
     requires unit { pos 0 <ℤ unit }
@@ -302,7 +302,7 @@ fn is_scale_fitting(draft: &Draft) -> bool
     is_fitting(product(i128::from(draft.own), draft.unit))
 }
 
-// Whether the reduced costs of the line at a place fit, where it is of the level.
+// Whether the reduced costs of the line at a place fit, if it is of the level.
 fn is_line_fitting(corner: CornerLines<'_>, place: usize, draft: &Draft, at: usize) -> bool
     requires corner { HasOutline corner }
     requires at { at < length corner.lines.now }
@@ -336,7 +336,7 @@ fn are_lines_fitting(corner: CornerLines<'_>, place: usize, draft: &Draft, upto:
     true
 }
 
-/// Whether the row fits, where the level has its lines before the place.
+/// Whether the row fits, if the level has its lines before the place.
 pub(crate) fn does_fit(corner: CornerLines<'_>, place: usize, draft: &Draft, upto: usize) -> bool
     requires corner { HasOutline corner }
     requires upto { upto ≤ length corner.lines.now }

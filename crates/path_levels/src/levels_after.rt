@@ -50,7 +50,7 @@ fn side_after(lines: &[Option<Inside>], pivot: &Pivot, at: usize) -> Option<Side
     Some(inside.side)
 }
 
-// The line's number in the level's row, where a mark of this side is inside.
+// The line's number in the level's row: the number kept, or its count if a mark of this side is inside.
 fn shown_number(line: &LineFacts, inside: Option<Side>, row: LevelRow<'_>, number: i64) -> i64
     requires line { IsPriced line.now }
     requires sum { IsScaled row.sum.now }
@@ -119,7 +119,7 @@ fn fitting(number: i64) -> Option<i64>
     Some(number)
 }
 
-// By how much of the pivot's value the level's cost moves, where the entering line has this number.
+// By which multiple of the pivot's value the level's cost moves, if the entering line has this number.
 fn ratio_of(n: i64, pivot: &Pivot, sum: &LevelSum) -> Ratio
     requires n { IsFitting n }
     requires pivot { IsSizedPivot (length sum.now.by.items) pivot.now }
@@ -136,7 +136,7 @@ fn ratio_of(n: i64, pivot: &Pivot, sum: &LevelSum) -> Ratio
     }
 }
 
-// The level's cost after the exchange, of which the entering line has these facts.
+// The level's cost after the exchange. These are the facts of the entering line.
 fn cost_after(line: &LineFacts, pivot: &Pivot, row: LevelRow<'_>) -> Result<Frac, SumStop>
     requires line { IsPriced line.now }
     requires pivot { IsSizedPivot (length row.sum.now.by.items) pivot.now }
@@ -167,7 +167,7 @@ fn level_with(unit: i64, numbers: Lowest, cost: Frac) -> LevelSum
     }
 }
 
-// The row of the level at a place after an exchange with this pivot, or its cost does not fit there.
+// The row of the level at a place after an exchange with this pivot, unless its cost does not fit there.
 fn level_by(
     alloc: Global,
     exchange: LineExchange<'_>,
@@ -204,7 +204,7 @@ fn level_by(
     Ok(next)
 }
 
-/// The row of the level at a place after an exchange, or its cost does not fit there.
+/// The row of the level at a place after an exchange, unless its cost does not fit there.
 pub fn next_level(
     alloc: Global,
     exchange: LineExchange<'_>,
@@ -245,7 +245,7 @@ fn is_touched(exchange: LineExchange<'_>, pivot: &Pivot, row: LevelRow<'_>) -> b
     number_of(&row.sum.by, step.enter.at) != 0
 }
 
-// The rows of all levels after an exchange with this pivot: those that it doesn't touch stay as they are.
+// The rows of all levels after an exchange with this pivot. Rows that it doesn't touch stay as they are.
 fn levels_by(
     alloc: Global,
     exchange: LineExchange<'_>,
@@ -279,7 +279,7 @@ fn levels_by(
     Ok(out)
 }
 
-/// The rows of all levels after an exchange, or the cost of one of them does not fit there.
+/// The rows of all levels after an exchange, unless the cost of one of them does not fit there.
 pub fn next_levels(
     alloc: Global,
     exchange: LineExchange<'_>,

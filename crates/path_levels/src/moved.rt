@@ -1,4 +1,4 @@
-// A value that moves by a multiple of another one.
+// A value that moves by a multiple of another value.
 ghost use Rattle.std.specs.Prelude.{◌≡◌, ◌<◌, ◌≤◌, ◌^◌, ◌+ℤ◌, ◌*ℤ◌, ◌<ℤ◌, pos, unsigned_abs, IfOk, OnErr};
 ghost use Rattle.frac_core.specs.declared.frac.TheConstants.{PART_BOUND};
 ghost use Rattle.std.specs.Int.{IsGcd};
@@ -17,7 +17,7 @@ struct Portion {
     den: i128,
 }
 
-// What the numerator of the difference of two fitting fractions is at most.
+// The greatest numerator of a difference of two fitting fractions.
 const NUM_ROOM: u128 = 2 * (PART_BOUND - 1) * (PART_BOUND - 1);
 
 // The greatest common divisor of a number and one above 0.
@@ -49,15 +49,7 @@ fn product(k: i128, by: i64) -> i128
     k * i128::from(by)
 }
 
-// What is left of the base's denominator and of another one without what they have in common.
-fn rests_of(base: Frac, den: i128) -> Portion
-    requires { pos 0 <ℤ den }
-    ensures { IsLowestPart (pos base.den) den result.num result.den }
-{
-    lowest_part(i128::from(base.den()), den)
-}
-
-// The sum of two fractions by what is left of their denominators, and by the second one's numerator.
+// The sum of two fractions, by their denominators divided so and by the second one's numerator.
 fn summed(base: Frac, num: i128, rests: Portion) -> Result<Frac, Unfit>
     requires above { pos 0 <ℤ rests.den }
     requires den { unsigned_abs rests.den < PART_BOUND }
@@ -83,7 +75,7 @@ fn joined(base: Frac, part: Portion) -> Result<Frac, Unfit>
     ensures kept { IfOk result IsKept }
     ensures unfit { OnErr result (IsUnfitRatio (joint_num base part.num part.den) (joint_den base part.den)) }
 {
-    let rests = rests_of(base, part.den);
+    let rests = lowest_part(i128::from(base.den()), part.den);
     if rests.den.unsigned_abs() >= PART_BOUND {
         return Err(Unfit);
     }

@@ -11,14 +11,14 @@ use path_lines::weights;
 use problem_core::{FIRST_STAY_LEVEL, Level, Problem, REQUIRED, Row, RowName, Stay};
 use std::alloc::Global;
 
-/// A line's name, the place of its level, what each of its deviations costs there, and its scale.
+/// A line's name, the place of its level, the cost there of each of its deviations, and its scale.
 #[derive(Clone, Copy)]
 pub struct LineFacts {
     pub name: RowName,
     pub level: usize,
-    /// What a deviation below costs, from 0 to the greatest weight.
+    /// The cost of a deviation below, from 0 to the greatest weight.
     pub under: i64,
-    /// What one above costs, from 0 to the greatest weight.
+    /// The cost of one above, from 0 to the greatest weight.
     pub over: i64,
     /// From 1 to the greatest scale.
     pub scale: i64,
@@ -125,7 +125,7 @@ fn row_lines(
     Ok(lines)
 }
 
-// The facts of all lines, where the levels of the stays begin at a place.
+// The facts of all lines. The levels of the stays begin at a place.
 fn lines_of(
     alloc: Global,
     p: &Problem,

@@ -14,7 +14,7 @@ use frac_core::{OutOfMemory, Stop, Unfit};
 use path_lines::{Inside, Pivot, Step, Sum, SumStop, solved_from};
 use std::alloc::Global;
 
-// The list with another number at the place.
+// The list with `number` at the place.
 fn with_number(
     alloc: Global,
     numbers: &[i64],
@@ -62,7 +62,7 @@ fn pivot_from(alloc: Global, sum: &Sum, step: Step) -> Result<Pivot, SumStop>
     solved_from(alloc, sum, step)
 }
 
-/// The pivot of an exchange, of two lines or of the two marks of one. Unfit where it is none.
+/// The pivot of an exchange, of two lines or of the two marks of one. Unfit if the step is no exchange.
 pub fn pivot_of(alloc: Global, lines: &[Option<Inside>], step: Step) -> Result<Pivot, SumStop>
     requires lines { AreSized lines.now }
     requires step { IsWithin (length lines.now) step }

@@ -28,22 +28,22 @@ use problem_core::Level;
 use std::alloc::Global;
 use thiserror::Error;
 
-/// The cost of so many first rows of a level does not fit, and that of fewer does.
-#[derive(Clone, Copy, Debug, PartialEq, Eq, Error)]
+/// The cost of so many first rows of a level does not fit, and the cost of fewer does.
+#[derive(Clone, Copy, Debug, Error)]
 #[error("the cost of the first {first} rows of a level does not fit")]
 pub struct UnfitRows {
     pub level: Level,
     pub first: u32,
 }
 
-/// Why the rows of levels are not made: first rows of a level do not fit, or memory is wanting.
+/// Why the rows of levels are not made: first rows of a level do not fit, or memory has run out.
 pub type RowsStop = Stop<UnfitRows>;
 
-/// No level has more lines.
+/// More lines than any level has.
 const ALL_LINES: u32 = u32::MAX;
 
-/// The rows of all levels at a corner, each line by line, or the first sum of first rows that does not fit
-/// there.
+/// The rows of all levels at a corner, each line by line, unless some sum of first rows does not fit there.
+/// Then the first such sum.
 pub fn first_levels(alloc: Global, corner: CornerLines<'_>) -> Result<Vec<LevelSum>, RowsStop>
     requires corner { IsSizedCorner corner }
     ensures sized { IfOk result (λ levels. AreSizedLevels (length corner.entry.lines.now) levels.items) }
@@ -61,7 +61,7 @@ pub fn first_levels(alloc: Global, corner: CornerLines<'_>) -> Result<Vec<LevelS
     Ok(levels)
 }
 
-/// The row of the level at a place, of its first lines, at most so many; or how many of them do not fit.
+/// The row of the level at a place, of at most so many of its first lines; or how many of them do not fit.
 pub fn level_of_lines(
     alloc: Global,
     corner: CornerLines<'_>,
@@ -81,7 +81,7 @@ pub fn level_of_lines(
     }
 }
 
-// A row of no numbers.
+// A row without numbers.
 fn empty_level(alloc: Global, count: usize) -> Result<LevelSum, OutOfMemory>
     ensures sized { IfOk result (IsSizedLevel count) }
     ensures empty { IfOk result (IsEmptySum count) }
@@ -94,7 +94,7 @@ fn empty_level(alloc: Global, count: usize) -> Result<LevelSum, OutOfMemory>
     })
 }
 
-// The row of a level with one line more.
+// The row of a level with one more line.
 fn with_line(
     alloc: Global,
     corner: CornerLines<'_>,
@@ -120,7 +120,7 @@ fn with_line(
     }
 }
 
-// The row that a draft is which fits.
+// The row that a fitting draft is.
 fn fitting_sum(draft: Draft) -> LevelSum
     requires own { pos 0 <ℤ draft.own }
     requires unit { pos 0 <ℤ draft.unit }
@@ -149,7 +149,7 @@ fn rows_stop(stop: SumStop, level: Level, first: u32) -> RowsStop
     }
 }
 
-// The row of a level of rows, of its first ones.
+// The row of the first lines of a level of rows.
 fn rows_level(
     alloc: Global,
     corner: CornerLines<'_>,
@@ -190,7 +190,7 @@ fn first_line(lines: &[LineFacts], place: usize) -> Option<usize>
     lines.iter().position(|line| line.level == place)
 }
 
-// The row of a stay's level, as the stay is kept.
+// The row of a stay's level, from the kept stay.
 fn stay_sum(alloc: Global, count: usize, line: &Option<Inside>) -> Result<LevelSum, SumStop>
     requires { IsSizedLine count line.now }
     ensures sized { IfOk result (IsSizedLevel count) }

@@ -1,4 +1,4 @@
-// What a line counts in a level's row.
+// The count of a line's deviations in a level's row.
 ghost use Rattle.std.specs.Prelude.{◌≡◌, ◌<◌, ◌^◌, ◌↔◌, ◌*◌, ◌≤◌, ◌<ℤ◌, pos, unsigned_abs, IsTrue};
 ghost use Rattle.frac_core.specs.Fraction.{IsFitting};
 ghost use Rattle.problem_core.specs.declared.limits.TheConstants.{WEIGHT_LIMIT};
@@ -11,7 +11,7 @@ use crate::sums::LevelRow;
 use frac_core::PART_BOUND;
 use problem_core::Side;
 
-/// What a deviation on this side costs.
+/// The cost of a deviation on this side.
 pub(crate) fn weight_on(line: &LineFacts, side: Side) -> i64
     ensures { result ≡ weight_on side line.now }
 {
@@ -21,7 +21,7 @@ pub(crate) fn weight_on(line: &LineFacts, side: Side) -> i64
     }
 }
 
-// What a deviation on this side counts in units of the level at the place.
+// The count of a deviation on this side, in units of the level at the place.
 fn share(line: &LineFacts, side: Side, place: usize, unit: i64) -> i64
     requires line { IsPriced line.now }
     requires above { pos 0 <ℤ unit }
@@ -35,7 +35,7 @@ fn share(line: &LineFacts, side: Side, place: usize, unit: i64) -> i64
     unit * weight_on(line, side) / line.scale
 }
 
-/// The same as often as the level's row is taken.
+/// The same times the row's own number.
 pub fn counted(line: &LineFacts, side: Side, row: LevelRow<'_>) -> i64
     requires line { IsPriced line.now }
     requires sum { IsScaled row.sum.now }
@@ -45,7 +45,7 @@ pub fn counted(line: &LineFacts, side: Side, row: LevelRow<'_>) -> i64
     row.sum.own * share(line, side, row.place, row.sum.unit)
 }
 
-/// The line's number in the level's row where its mark of this side is inside.
+/// The line's number in the level's row if its mark of this side is inside.
 pub fn stood_number(line: &LineFacts, side: Side, row: LevelRow<'_>) -> i64
     requires line { IsPriced line.now }
     requires sum { IsScaled row.sum.now }
@@ -59,7 +59,7 @@ pub fn stood_number(line: &LineFacts, side: Side, row: LevelRow<'_>) -> i64
     }
 }
 
-/// Whether the reduced cost of the mark of this side fits, where the line has the number.
+/// Whether the reduced cost of the mark of this side fits, if the line has the number.
 pub fn has_fitting_cost(line: &LineFacts, side: Side, row: LevelRow<'_>, number: i64) -> bool
     requires line { IsPriced line.now }
     requires sum { IsScaled row.sum.now }

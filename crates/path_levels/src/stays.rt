@@ -1,5 +1,5 @@
 // The equation of an inside stay, as the row of its level.
-ghost use Rattle.std.specs.Prelude.{◌≡◌, ◌↔◌, ◌*ℤ◌, pos, length, map, All, IsTrue, IfOk, IfErr, OnErr};
+ghost use Rattle.std.specs.Prelude.{◌≡◌, ◌*ℤ◌, pos, length, map, All, IfOk, IfErr, OnErr};
 ghost use Rattle.frac_core.specs.Fraction.{IsFitting, IsKept};
 ghost use Rattle.corner_lines.specs.Levels.StayLevels.{turned as turned_by};
 ghost use Rattle.path_lines.specs.Tables.{IsSized};
@@ -7,21 +7,14 @@ ghost use Rattle.frac_core.specs.Stops.{IsRefused};
 ghost use Rattle.path_levels.specs.Levels.{IsSizedLevel};
 ghost use Rattle.path_levels.specs.Parts.{IsStaySum};
 
+use crate::joins::is_fitting;
 use crate::sums::LevelSum;
-use frac_core::{Frac, OutOfMemory, PART_BOUND, Stop, Unfit};
+use frac_core::{Frac, OutOfMemory, Stop, Unfit};
 use path_lines::{Inside, SumStop};
 use problem_core::Side;
 use std::alloc::Global;
 
-// Whether twice the number fits.
-fn does_twice_fit(number: i64) -> bool
-    requires { IsFitting number }
-    ensures { IsTrue result ↔ IsFitting (pos 2 *ℤ number) }
-{
-    (2 * number).unsigned_abs() < PART_BOUND as u64
-}
-
-// The number, or where the under mark is inside the same with the other sign.
+// The number, with the other sign if the under mark is inside.
 fn turned(side: Side, number: i64) -> i64
     requires { IsFitting number }
     ensures value { result ≡ turned_by side number }
@@ -33,7 +26,7 @@ fn turned(side: Side, number: i64) -> i64
     }
 }
 
-// The same of each number.
+// Each of the numbers, turned so.
 fn all_turned(alloc: Global, side: Side, numbers: &[i64]) -> Result<Vec<i64>, OutOfMemory>
     requires { All IsFitting numbers.now }
     ensures each { IfOk result (λ out. out.items ≡ map (turned_by side) numbers.now) }
@@ -45,7 +38,7 @@ fn all_turned(alloc: Global, side: Side, numbers: &[i64]) -> Result<Vec<i64>, Ou
     Ok(out)
 }
 
-// The same of a value, which fits with either sign.
+// The value, turned so. It fits with either sign.
 fn turned_value(side: Side, value: Frac) -> Result<Frac, Unfit>
     ensures value { IfOk result (λ f. f ≡ record { num = turned_by side value.num; den = value.den }) }
     ensures kept { IsKept value }
@@ -67,7 +60,7 @@ pub(crate) fn inside_stay(alloc: Global, inside: &Inside) -> Result<LevelSum, Su
 {
     let own = inside.sum.own;
     let cost = turned_value(inside.side, inside.sum.value)?;
-    if !does_twice_fit(own) {
+    if !is_fitting(2 * i128::from(own)) {
         return Err(Stop::Refused(Unfit));
     }
     let by = all_turned(alloc, inside.side, &inside.sum.by)?;

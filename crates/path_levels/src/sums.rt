@@ -2,9 +2,9 @@
 
 use frac_core::Frac;
 
-/// What a level costs at a corner: `own * unit` times the cost is the sum of the outside lines' deviations,
-/// each times its number, of `own` times what the inside ones of the level count in units, and of
-/// `own * unit` times the cost at the corner. In lowest terms.
+/// The cost of a level at a corner, in lowest terms. `own * unit` times the cost is the sum of three parts:
+/// the outside lines' deviations, each times its number; `own` times the counts in units of the level's
+/// inside lines; and `own * unit` times the cost at the corner.
 #[derive(Drop)]
 pub struct LevelSum {
     pub unit: i64,

@@ -1,4 +1,4 @@
-// What is kept of a corner of a problem.
+// The kept parts of a corner of a problem.
 
 use crate::outline::Outline;
 use crate::sums::LevelSum;

@@ -13,14 +13,14 @@ pub record IsCommonOf (size n common : ℤ) : Type 0 where
   pub of_size : unsigned_abs common ∣ unsigned_abs size
   pub of_n : unsigned_abs common ∣ unsigned_abs n
 
--- they are as the size and n to each other, and no larger
+-- the factors are as the size and n to each other, and no larger
 pub record AreSharing (size n : ℤ) (factors : Factors) : Type 0 where
   pub above : pos 0 <ℤ factors.row
   pub same : factors.pivot *ℤ size ≡ n *ℤ factors.row
   pub row_most : unsigned_abs factors.row ≤ unsigned_abs size
   pub pivot_most : unsigned_abs factors.pivot ≤ unsigned_abs n
 
--- so often the row and the pivot; another number at the leaving line, and 0 at the entering one
+-- the row and the pivot, each times its factor, with `leaving` at the leaving line and 0 at the entering one
 pub record IsCarriedBy (pivot : Pivot) (sum : LevelSum) (factors : Factors) (leaving : ℤ) (wide : Wide)
     : Type 0 where
   pub own_is : wide.own ≡ factors.row *ℤ sum.own

@@ -1,4 +1,4 @@
--- What has to fit of a level's row after an exchange, by places.
+-- Which parts of a level's row have to fit after an exchange, by places.
 use Rattle.std.specs.Prelude.{◌≡◌, ℕ, ◌<◌, cond, nat_eq, List, length, get_or}
 use Rattle.std.specs.Prelude.{ℤ, pos, ◌*ℤ◌, ◌<ℤ◌, All, Option, None, Some}
 use Rattle.frac_core.specs.Fraction.{Fraction, IsFitting, IsKept, IsRatio, IsUnfitRatio, sum_den, sum_num}
@@ -13,7 +13,7 @@ use Rattle.path_levels.specs.declared.outline.LineFacts.{LineFacts}
 use Rattle.path_levels.specs.declared.sums.LevelSum.{LevelSum}
 use Rattle.path_levels.specs.Shares.{reduced_of, shown_of}
 
--- which mark of the line is inside, if one is
+-- which mark of the line is inside, if any
 abbrev pub side_of : Option Inside → Option Side
 side_of None = None
 side_of (Some inside) = Some inside.side
@@ -55,12 +55,12 @@ moved_num n pivot sum = sum_num sum.cost (n *ℤ pivot.times) ((sum.own *ℤ sum
 abbrev pub moved_den : Pivot → LevelSum → ℤ
 moved_den pivot sum = sum_den sum.cost ((sum.own *ℤ sum.unit) *ℤ pivot.size) pivot.value
 
--- it is the cost, and `n` over the scale of the entering line's deviation
+-- the moved cost is the cost plus the entering line's deviation times `n` over the scale
 pub record IsMovedCost (n : ℤ) (pivot : Pivot) (sum : LevelSum) (cost : Fraction) : Type 0 where
   pub kept : IsKept cost
   pub ratio : IsRatio cost (moved_num n pivot sum) (moved_den pivot sum)
 
--- it does not fit, if the number does
+-- if the number fits, the cost does not
 abbrev pub IsCostStop : ℤ → Pivot → LevelSum → SumStop → Type 0
 IsCostStop n pivot sum stop = IsRefused stop
     × (IsFitting n → IsUnfitRatio (moved_num n pivot sum) (moved_den pivot sum))

@@ -1,4 +1,4 @@
--- A value that moves by a multiple of another one.
+-- A value that moves by a multiple of another value.
 use Rattle.std.specs.Prelude.{◌≡◌, ℕ, ◌<◌, ℤ, pos, ◌+ℤ◌, ◌*ℤ◌, ◌<ℤ◌, unsigned_abs}
 use Rattle.std.specs.Int.{IsGcd}
 use Rattle.frac_core.specs.Fraction.{Fraction}

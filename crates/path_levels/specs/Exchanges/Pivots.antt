@@ -43,7 +43,8 @@ pub record IsTurnedFrom (leaving : Sum) (step : Step) (pivot : Pivot) : Type 0 w
   pub value_is : pivot.value ≡ leaving.value
   pub times_is : pivot.times ≡ leaving.own
 
--- the lines cancel by its numbers, and after the exchange the entering line's deviation is as it says
+-- the lines cancel by its numbers, and the entering line's deviation after the exchange follows from its
+-- value
 pub record IsExchangePivot (p : Problem) (at : List Mark) (pivot : Pivot) : Type 0 where
   pub there : IsThere p at
   pub sized : IsSizedPivot (line_count p) pivot
@@ -55,7 +56,7 @@ pub record IsExchangePivot (p : Problem) (at : List Mark) (pivot : Pivot) : Type
       → HasDeviation p (next_marks p pivot at) (name_at p pivot.step.enter.at) enters
   pub of_lines : pivot.is_turn ≡ false → IsPivotAt p at pivot
 
--- it is the pivot of the exchange, wherever that can be made
+-- it is the pivot of the exchange, whenever that can be made
 pub record IsPivotFor (exchange : LineExchange) (pivot : Pivot) : Type 0 where
   pub step_is : pivot.step ≡ exchange.step
   pub sized : IsSizedPivot (length exchange.corner.lines.now) pivot
@@ -80,7 +81,7 @@ pub record IsMultipleAt (p : Problem) (at : List Mark) (level : ℕ) (unit : ℤ
   pub inside : All (λ l. IsOutsideLine at l.name ⊎ (numbers_of (lines p) wide.by.items l.name ≡ pos 0))
       (lines p)
 
--- after the exchange it is a multiple of the row of the level at a place, wherever the sum is that row before
+-- after the exchange it is a multiple of the row of the level at a place, whenever the sum is that row before
 abbrev pub IsNextMultiple : Outline → Pivot → (place : ℕ) → LevelSum → Wide → Type 0
 IsNextMultiple outline pivot place sum wide = (p : Problem) (at : List Mark) → IsOutline p outline
     → IsExchangePivot p at pivot → IsSumAt p at outline place sum

@@ -1,4 +1,4 @@
--- What outside marks cost at the levels of a corner, by rows that are not divided.
+-- The costs of outside marks at the levels of a corner, by rows that are not divided.
 use Rattle.std.specs.Prelude.{◌≡◌, ℕ, ◌<◌, List, length, get_or, ℤ, unsigned_abs}
 use Rattle.problem_core.specs.declared.parts.Side.{Side}
 use Rattle.problem_core.specs.declared.parts.Mark.{Mark}
@@ -24,7 +24,7 @@ IsSizedWide count level = IsWideLevel count level.unit level.wide
 abbrev pub HasWideLine : ℕ → WideLevel → Type 0
 HasWideLine at level = (at < length level.wide.by.items) × IsSizedWide (length level.wide.by.items) level
 
--- in the row of the level at a place, of the line at another
+-- by the row of the level at `place`, for the line at `at`
 abbrev pub wide_cost : Side → LineFacts → (at place : ℕ) → WideLevel → ℤ
 wide_cost side facts at place level =
     cost_of side place (unsigned_abs level.unit) (unsigned_abs level.wide.own) facts
@@ -35,18 +35,18 @@ abbrev pub IsWideNegative : LineFacts → ℕ → List WideLevel → WideLevel �
 IsWideNegative facts at next d =
     (side : Side) × IsNegativeFirst (length next) (λ k. wide_cost side facts at k (get_or next k d))
 
--- it is a multiple of the level's row at the corner, whose cost is taken so many times
+-- with its unit, it is a multiple of the level's row at the corner
 pub record IsWideAt (p : Problem) (at : List Mark) (number : ℕ) (level : WideLevel) : Type 0 where
   pub unit_is : IsLevelUnit p number (unsigned_abs level.unit)
   pub row : IsMultipleAt p at number level.unit level.wide
 
--- so it is with each level of the outline
+-- each level of the outline has such a multiple
 pub record AreWideAt (p : Problem) (at : List Mark) (outline : Outline) (next : List WideLevel) : Type 0 where
   pub count : length next ≡ length outline.levels.items
   pub each : (k : ℕ) (d : WideLevel) → k < length outline.levels.items
       → IsWideAt p at (number_at outline.levels.items k) (get_or next k d)
 
--- after the exchange they are multiples of the levels' rows, wherever the levels are as they are kept before
+-- after the exchange they are multiples of the levels' rows, whenever the levels are kept so before
 abbrev pub AreNextWide : Outline → Pivot → List LevelSum → List WideLevel → Type 0
 AreNextWide outline pivot levels next = (p : Problem) (at : List Mark) → IsExchangePivot p at pivot
     → IsOutline p outline → AreLevels p at outline levels → AreWideAt p (next_marks p pivot at) outline next
