@@ -1,4 +1,4 @@
--- The lines of a script, by the cases of their grammar. What follows a construct is its last argument.
+-- The lines of a script, by the cases of their grammar. The text after a construct is its last argument.
 use Rattle.std.specs.Prelude.{◌≡◌, ℕ, ◌-◌, Bool, true, false, not, List, [], ◌∷◌, ◌++◌, length, Option, Some}
 use Rattle.std.specs.Prelude.{None, codes, pos, map, Result}
 use Rattle.span_text.specs.Bytes.{at_sign, minus, plus, star}
@@ -135,7 +135,7 @@ TermText is_negative F = Or (Variable (λ o. F (times (lowest is_negative 1 1) o
     (F (times (decimal is_negative n) mean.One))))
     (Ratio (λ p q. Sign star (Variable (λ o. F (times (lowest is_negative p q) o))))))
 
--- behind some terms
+-- after some terms
 abbrev pub Behind : {A : Type 0} → (List Term → Rel A) → (List Term → Rel A) → List Term → Rel A
 Behind F G terms = Or (Sign plus (TermText false (λ t. G (terms ++ t ∷ []))))
     (Or (Sign minus (TermText true (λ t. G (terms ++ t ∷ [])))) (F terms))
@@ -145,11 +145,11 @@ abbrev pub Expression : {A : Type 0} → (List Term → Rel A) → Rel A
 Expression F = Or (Sign minus (TermText true (λ t. Loop (Behind F) (t ∷ []))))
     (TermText false (λ t. Loop (Behind F) (t ∷ [])))
 
--- a relation, and the blanks behind it
+-- a relation, and the blanks after it
 abbrev pub Relation : {A : Type 0} → (parts.Rel → Rel A) → Rel A
 Relation F = Words relations (λ r. Blanks (F r))
 
--- what a priority is: a name or a number
+-- the text of a priority: a name or a number
 abbrev pub Ranked : {A : Type 0} → (Option Meant → Rel A) → Rel A
 Ranked F = Or (Name (λ n. F (Some (object.Name n)))) (Number (λ n. F (Some (object.Number (pos n)))))
 
@@ -191,11 +191,11 @@ FormatLine n a = Made (λ f. mean.Update (mean.Vfl n a f)) FormatText
 abbrev pub is_any : ℕ → Bool
 is_any b = true
 
--- all that follows, one byte at least
+-- all that follows, at least one byte
 abbrev pub Rest : {A : Type 0} → (List ℕ → A) → Rel A
 Rest f = One is_any (λ b t v. v ≡ f (b ∷ t))
 
--- What follows the word of a change in a line of this length. The text of a tree runs to the line's end.
+-- The text after the word of a change in a line of this length. The text of a tree runs to the line's end.
 abbrev pub ChangeText : ℕ → ChangeWord → Rel Change
 ChangeText len change.View = Name (λ n. Or (Word (codes "in")
     (Name (λ p. End (mean.Views (mean.View n (Some p)))))) (End (mean.Views (mean.View n None))))
@@ -220,7 +220,7 @@ ChangeText len change.Unsize = Name (λ n. End (mean.Leave (mean.Unsize n)))
 ChangeText len change.Direction = Words directions (λ d. Tail (End (mean.Turn d)))
 ChangeText len change.Keep = Name (λ n. End (mean.Keep n))
 
--- what follows the word of another command
+-- the text after the word of another command
 abbrev pub PlainText : PlainWord → Rel Plain
 PlainText plain.Undo = End mean.Undo
 PlainText plain.Budget = Whole (λ n. End (mean.Budget n))
@@ -239,19 +239,19 @@ Any a s v = v ≡ a
 abbrev pub is_no_space : ℕ → Bool
 is_no_space b = not (is_space b)
 
--- Behind the first word: where more follows, a space stands before it.
+-- After the first word: if more follows, a space is before it.
 abbrev pub Apart : {A : Type 0} → Rel A → Rel A
 Apart F = Not is_no_space (Blanks F)
 
--- that a line asks for this change
+-- a line asks for this change
 abbrev pub does_change : Change → Said
 does_change c = mean.Does (mean.Changes c)
 
--- that a line is this other command
+-- a line is this other command
 abbrev pub does_plain : Plain → Said
 does_plain c = mean.Does (mean.Other c)
 
--- What follows the first word of a line of this length. After `why` there is a change.
+-- The text after the first word of a line of this length. After `why` there is a change.
 abbrev pub Follows : ℕ → FirstWord → Rel Said
 Follows len (first.Change k) = Made does_change (ChangeText len k)
 Follows len (first.Plain k) = Made does_plain (PlainText k)
@@ -262,7 +262,7 @@ abbrev pub LineOf : List (List ℕ × FirstWord) → ℕ → Rel Said
 LineOf words len = Blanks (Or (Lit (codes "#") (Any mean.Nothing))
     (Or (Words words (λ w. Apart (Follows len w))) (End mean.Nothing)))
 
--- a line and what it says
+-- a line and its meaning
 unfoldable pub Line : List (List ℕ × FirstWord) → Rel Said
 Line words line = LineOf words (length line) line
 

@@ -62,7 +62,7 @@ is_star b = b == star
 abbrev pub is_hash : ℕ → Bool
 is_hash b = b == hash
 
--- what follows the word `view`: a name, and perhaps `in` and the parent's name
+-- after the word `view`: a name, and perhaps `in` and the parent's name
 unfoldable pub view_at : List ℕ → Result Change ℕ
 view_at s = do
   name ← name_at s
@@ -95,7 +95,7 @@ metric_value_at name is_negative s = do
   _ ← end_at value.1
   Ok (mean.Update (mean.Metric name (decimal is_negative value.0)))
 
--- what follows the word `metric`: a name, perhaps -, and a value
+-- after the word `metric`: a name, perhaps -, and a value
 unfoldable pub metric_at : List ℕ → Result Change ℕ
 metric_at s = do
   name ← name_at s
@@ -105,7 +105,7 @@ metric_at s = do
         metric_value_at name.0 true rest)
       else metric_value_at name.0 false name.1
 
--- what follows the word `window`: a width and a height
+-- after the word `window`: a width and a height
 unfoldable pub window_at : List ℕ → Result Change ℕ
 window_at s = do
   width ← number_at s
@@ -113,7 +113,7 @@ window_at s = do
   _ ← end_at height.1
   Ok (mean.Update (mean.Window (decimal false width.0) (decimal false height.0)))
 
--- what follows the word `budget`: a whole number
+-- after the word `budget`: a whole number
 unfoldable pub budget_at : List ℕ → Result Plain ℕ
 budget_at s = do
   value ← whole_at s
@@ -140,7 +140,7 @@ variable_at s = do
   name ← raw_name_at s
   if starts is_point name.1 then attribute_at name.0 name.1 else Ok (mean.Metric name.0, skip name.1)
 
--- so many times the operand that was read, and the text behind it
+-- so many times the operand that was read, and the text after it
 abbrev pub with_by : Fraction → Operand × List ℕ → Result (Term × List ℕ) ℕ
 with_by by o = Ok (times by o.0, o.1)
 
@@ -148,24 +148,24 @@ with_by by o = Ok (times by o.0, o.1)
 unfoldable pub product_at : Fraction → List ℕ → Result (Term × List ℕ) ℕ
 product_at by s = variable_at s >>= with_by by
 
--- behind a multiplier or a number
+-- after a multiplier or a number
 unfoldable pub multiplied_at : Bool → Multiple → List ℕ → Result (Term × List ℕ) ℕ
 multiplied_at is_negative (multiple.Number n) s = if starts is_star s
     then sign_at star s >>= product_at (decimal is_negative n)
     else Ok (times (decimal is_negative n) mean.One, s)
 multiplied_at is_negative (multiple.Ratio p q) s = sign_at star s >>= product_at (lowest is_negative p q)
 
--- a term behind its sign
+-- a term after its sign
 unfoldable pub term_at : Bool → List ℕ → Result (Term × List ℕ) ℕ
 term_at is_negative s = if starts is_letter s
     then product_at (lowest is_negative 1 1) s
     else multiple_at s >>= λ m. multiplied_at is_negative m.0 m.1
 
--- this is the next term, and the text behind it
+-- this is the next term, and the text after it
 abbrev pub some_term : Term × List ℕ → Result (Option (Term × List ℕ)) ℕ
 some_term t = Ok (Some t)
 
--- this sign and a term behind it
+-- this sign and a term after it
 abbrev pub signed_at : Bool → ℕ → List ℕ → Result (Option (Term × List ℕ)) ℕ
 signed_at is_negative sign s = sign_at sign s >>= term_at is_negative >>= some_term
 
@@ -175,13 +175,13 @@ next_at s = if starts is_plus s
     then signed_at false plus s
     else (if starts is_minus s then signed_at true minus s else Ok None)
 
--- where a next term was read, what g reads behind it; otherwise these terms, and the text
+-- if a next term was read, what g reads after it; otherwise these terms, and the text
 abbrev pub go_on : (List Term → List ℕ → Result (List Term × List ℕ) ℕ) → List Term → List ℕ
     → Option (Term × List ℕ) → Result (List Term × List ℕ) ℕ
 go_on g terms s None = Ok (terms, s)
 go_on g terms s (Some t) = g (terms ++ t.0 ∷ []) t.1
 
--- behind some terms: a next one and what g reads behind it, or the end of the sum
+-- after some terms: a next one and what g reads after it, or the end of the sum
 unfoldable pub behind_at : (List Term → List ℕ → Result (List Term × List ℕ) ℕ) → List Term → List ℕ
     → Result (List Term × List ℕ) ℕ
 behind_at g terms s = next_at s >>= go_on g terms s
@@ -194,19 +194,19 @@ first_at s = if starts is_minus s then sign_at minus s >>= term_at true else ter
 unfoldable pub expression_at : List ℕ → Result (List Term × List ℕ) ℕ
 expression_at s = first_at s >>= λ t. loop_at behind_at (t.0 ∷ []) t.1
 
--- the relation that was read, and the text behind its blanks
+-- the relation that was read, and the text after its blanks
 abbrev pub with_blanks : Rel × List ℕ → Result (Rel × List ℕ) ℕ
 with_blanks r = Ok (r.0, skip r.1)
 
--- a relation, and the blanks behind it
+-- a relation, and the blanks after it
 unfoldable pub relation_at : List ℕ → Result (Rel × List ℕ) ℕ
 relation_at s = tried relations s >>= with_blanks
 
--- the object that is this name, and the text behind it
+-- the object that is this name, and the text after it
 abbrev pub named_object : List ℕ × List ℕ → Result (Option Meant × List ℕ) ℕ
 named_object n = Ok (Some (object.Name n.0), n.1)
 
--- the object that is this number of thousandths, and the text behind it
+-- the object that is this number of thousandths, and the text after it
 abbrev pub number_object : ℕ × List ℕ → Result (Option Meant × List ℕ) ℕ
 number_object n = Ok (Some (object.Number (pos n.0)), n.1)
 
@@ -232,7 +232,7 @@ linear_at s = do
   weight ← weight_at priority.1
   Ok (linear left.0 rel.0 right.0 priority.0 weight.0, weight.1)
 
--- what follows the word `constrain`: a group's name and a linear constraint
+-- after the word `constrain`: a group's name and a linear constraint
 unfoldable pub constrain_at : List ℕ → Result Change ℕ
 constrain_at s = do
   group ← name_at s
@@ -244,7 +244,7 @@ constrain_at s = do
 unfoldable pub format_line_at : List ℕ → Option Align → List ℕ → Result Change ℕ
 format_line_at n a s = format_at s >>= λ f. Ok (mean.Update (mean.Vfl n a f))
 
--- what follows the word `vfl`: a group's name, perhaps an alignment, and a format
+-- after the word `vfl`: a group's name, perhaps an alignment, and a format
 unfoldable pub vfl_at : List ℕ → Result Change ℕ
 vfl_at s = do
   group ← name_at s
@@ -265,7 +265,7 @@ view_word_at s = do
   rest ← tail_at word.1
   Ok ((name.0, word.0), rest)
 
--- for this attribute of the view of this name a value, and perhaps a priority
+-- for this attribute of the view of this name: a value, and perhaps a priority
 unfoldable pub suggestion_at : List ℕ → AttrWord → Bool → List ℕ → Result Change ℕ
 suggestion_at name word is_negative s = do
   value ← number_at s
@@ -273,7 +273,7 @@ suggestion_at name word is_negative s = do
   _ ← end_at priority.1
   Ok (mean.Update (mean.Suggest name word (decimal is_negative value.0) priority.0))
 
--- what follows the word `suggest`: an attribute of a view, perhaps -, a value, and perhaps a priority
+-- after the word `suggest`: an attribute of a view, perhaps -, a value, and perhaps a priority
 unfoldable pub suggest_at : List ℕ → Result Change ℕ
 suggest_at s = do
   of ← view_word_at s
@@ -283,14 +283,14 @@ suggest_at s = do
         suggestion_at of.0.0 of.0.1 true rest)
       else suggestion_at of.0.0 of.0.1 false of.1
 
--- what follows the word `release`: an attribute of a view
+-- after the word `release`: an attribute of a view
 unfoldable pub release_at : List ℕ → Result Change ℕ
 release_at s = do
   of ← view_word_at s
   _ ← end_at of.1
   Ok (mean.Leave (mean.Release of.0.0 of.0.1))
 
--- what follows the word `direction`
+-- after the word `direction`: a direction
 unfoldable pub direction_at : List ℕ → Result Change ℕ
 direction_at s = do
   to ← tried directions s
@@ -306,7 +306,7 @@ hug_at s = if starts is_h s then word_at (codes "hug") s >>= object_at else Ok (
 unfoldable pub resist_at : List ℕ → Result (Option Meant × List ℕ) ℕ
 resist_at s = if starts is_r s then word_at (codes "resist") s >>= object_at else Ok (None, s)
 
--- behind a view's name, width and height: perhaps priorities
+-- after a view's name, width and height: perhaps priorities
 unfoldable pub pulls_at : List ℕ → ℕ → ℕ → List ℕ → Result Change ℕ
 pulls_at name width height s = do
   hug ← hug_at s
@@ -314,7 +314,7 @@ pulls_at name width height s = do
   _ ← end_at resist.1
   Ok (mean.Update (mean.Size name (decimal false width) (decimal false height) hug.0 resist.0))
 
--- what follows the word `size`: a view's name, a width, a height, and perhaps priorities
+-- after the word `size`: a view's name, a width, a height, and perhaps priorities
 unfoldable pub size_at : List ℕ → Result Change ℕ
 size_at s = do
   name ← name_at s
@@ -322,7 +322,7 @@ size_at s = do
   height ← number_at width.1
   pulls_at name.0 width.0 height.0 height.1
 
--- what follows the word `sweep`: the word `width`, and two widths
+-- after the word `sweep`: the word `width`, and two widths
 unfoldable pub sweep_at : List ℕ → Result Plain ℕ
 sweep_at s = do
   text ← word_at (codes "width") s
@@ -331,7 +331,7 @@ sweep_at s = do
   _ ← end_at to.1
   Ok (mean.Sweep (decimal false from.0) (decimal false to.0))
 
--- what follows the word of a change in a line of this length
+-- the text after the word of a change in a line of this length
 abbrev pub change_at : ℕ → ChangeWord → List ℕ → Result Change ℕ
 change_at len change.View s = view_at s
 change_at len change.Tree s = tree_at len s
@@ -348,7 +348,7 @@ change_at len change.Unsize s = named_at (λ n. mean.Leave (mean.Unsize n)) s
 change_at len change.Direction s = direction_at s
 change_at len change.Keep s = named_at mean.Keep s
 
--- what follows the word of another command
+-- the text after the word of another command
 abbrev pub plain_at : PlainWord → List ℕ → Result Plain ℕ
 plain_at plain.Undo s = bare_at mean.Undo s
 plain_at plain.Budget s = budget_at s
@@ -358,13 +358,13 @@ plain_at plain.Diagnose s = bare_at mean.Diagnose s
 plain_at plain.Certify s = bare_at mean.Certify s
 plain_at plain.Sweep s = sweep_at s
 
--- the text behind the first word and the spaces that follow it
+-- the text after the first word and the spaces that follow it
 unfoldable pub apart_at : List ℕ → Result (List ℕ) ℕ
 apart_at [] = Ok []
 apart_at (b ∷ s) = if is_space b then Ok (skip (b ∷ s)) else Err (length (b ∷ s))
 
--- the first word of a line: that of a change, if there is one, or else of another command; if there is
--- neither, the reading that came further
+-- the first word of a line: a change's word, if there is one, or else another command's; if there is neither,
+-- the reading that came further
 abbrev pub as_first : Result (ChangeWord × List ℕ) ℕ → Result (PlainWord × List ℕ) ℕ
     → Result (FirstWord × List ℕ) ℕ
 as_first (Ok c) r = Ok (first.Change c.0, c.1)
@@ -378,20 +378,20 @@ changing_at len s = do
   rest ← apart_at word.1
   change_at len word.0 rest
 
--- what follows the first word of a line of this length
+-- the text after the first word of a line of this length
 abbrev pub follows_at : ℕ → FirstWord → List ℕ → Result Said ℕ
 follows_at len (first.Change k) s = change_at len k s >>= λ m. Ok (does_change m)
 follows_at len (first.Plain k) s = plain_at k s >>= λ m. Ok (does_plain m)
 follows_at len first.Why s = changing_at len s >>= λ m. Ok (mean.Why m)
 
--- in a line of this length, one of these first words, and what follows it
+-- in a line of this length, one of these first words, and the text after it
 unfoldable pub said_at : List (List ℕ × FirstWord) → ℕ → List ℕ → Result Said ℕ
 said_at words len s = do
   word ← tried words s
   rest ← apart_at word.1
   follows_at len word.0 rest
 
--- a line of this length behind the blanks in front of it: a comment, a command or a question, or nothing
+-- a line of this length after the blanks in front of it: a comment, a command or a question, or nothing
 unfoldable pub content_at : List (List ℕ × FirstWord) → ℕ → List ℕ → Result Said ℕ
 content_at words len s = if starts is_hash s
     then (do
@@ -403,7 +403,7 @@ content_at words len s = if starts is_hash s
       _ ← end_at s
       Ok mean.Nothing))
 
--- what a line says, or how many of its bytes are left where the reading ends
+-- the meaning of a line, or how many of its bytes are left where the reading ends
 unfoldable pub line_at : List (List ℕ × FirstWord) → List ℕ → Result Said ℕ
 line_at words s = content_at words (length s) (skip s)
 

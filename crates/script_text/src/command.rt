@@ -1,4 +1,4 @@
-// What a line says.
+// The meaning of a line.
 ghost use Rattle.std.specs.Prelude.{◌≡◌, IfOk, map};
 ghost use Rattle.script_text.specs.Directions.{line_in, operand_in, term_in};
 ghost use Rattle.script_text.specs.View.{linear_view, operand_view, term_view, terms_view};
@@ -11,7 +11,7 @@ use std::alloc::Global;
 use std::slice;
 use vfl_text::Format;
 
-/// What a term of an expression is a multiple of.
+/// The operand of a term, which the term is a multiple of.
 #[derive(Clone, Copy)]
 pub enum Operand<'a> {
     /// An attribute of the view of this name.
@@ -29,7 +29,7 @@ pub struct ExprTerm<'a> {
     pub of: Operand<'a>,
 }
 
-// What it is a multiple of, by the word that its attribute has in both directions.
+// The operand, by the word that names its attribute in both directions.
 fn operand_in(of: Operand<'_>, to: Direction) -> Operand<'_>
     ensures { operand_view result ≡ operand_in to (operand_view of.entry) }
 {
@@ -43,7 +43,7 @@ fn operand_in(of: Operand<'_>, to: Direction) -> Operand<'_>
 }
 
 impl<'a> ExprTerm<'a> {
-    /// The term that this one means in this direction, by words that mean the same in both.
+    /// The meaning of this term in this direction, by words that mean the same in both.
     pub fn turned(&self, to: Direction) -> ExprTerm<'a>
         ensures { term_view result ≡ term_in to (term_view self.now) }
     {
@@ -54,7 +54,7 @@ impl<'a> ExprTerm<'a> {
     }
 }
 
-// The terms that these mean in this direction.
+// The meaning of the terms in this direction.
 fn terms_in<'a>(
     alloc: Global,
     terms: &[ExprTerm<'a>],
@@ -70,8 +70,8 @@ fn terms_in<'a>(
     Ok(out)
 }
 
-/// A linear constraint. The terms of both sides stand in the order in which they were written; where no
-/// weight was written, the weight is 1.
+/// A linear constraint. The terms of both sides are in the order of the text. If no weight is written, the
+/// weight is 1.
 #[derive(Drop)]
 pub struct Linear<'a> {
     pub left: Vec<ExprTerm<'a>>,
@@ -82,7 +82,7 @@ pub struct Linear<'a> {
 }
 
 impl<'a> Linear<'a> {
-    /// The constraint that this one means in this direction, by words that mean the same in both.
+    /// The meaning of this constraint in this direction, by words that mean the same in both.
     pub fn turned(&self, alloc: Global, to: Direction) -> Result<Linear<'a>, OutOfMemory>
         ensures { IfOk result (λ line. linear_view line ≡ line_in to (linear_view self.now)) }
     {
@@ -202,7 +202,7 @@ pub enum Plain {
     Rows,
     /// Which lines the values leave unmet, and which values are undecided.
     Diagnose,
-    /// The values, and what shows that they are the best.
+    /// The values, and a certificate that they are the best.
     Certify,
     /// The best values for each width of the window between these.
     Sweep { from: Frac, to: Frac },

@@ -7,7 +7,7 @@ use crate::command::Change;
 use crate::words::direction_word;
 use span_text::{PartStop, names, pieces};
 
-/// What follows the word `direction`.
+/// The text after the word `direction`.
 #[tactic(auto, unfolding(crate::specs::LineReading::direction_at))]
 pub fn direction(text: &[u8]) -> Result<Change<'_>, PartStop>
     ensures { GivesOrMemory change_view result (direction_at text.now) }

@@ -1,7 +1,8 @@
 //! The lines of a script and their readings.
 //!
 //! A script is of version 1, or of version 2, which has more commands ([`Version`]). A line is blank, a
-//! comment (`#` and any bytes), or one of these commands, in which `?` stands behind what may be left out:
+//! comment (`#` and any bytes), or one of these commands, in which `?` follows the parts that may be left
+//! out:
 //!
 //! ```text
 //! view NAME (in NAME)?
@@ -22,7 +23,7 @@
 //! certify
 //! ```
 //!
-//! A line of version 2 may be one of these besides:
+//! In version 2 a line may also be one of these:
 //!
 //! ```text
 //! direction (ltr | rtl)
@@ -34,7 +35,7 @@
 //! ```
 //!
 //! A [`Change`] is a command down to `release` in the first list, or down to `keep` in the second: it asks
-//! for another scene. Every other command is [`Plain`]. `why` may precede a change, and no other command; the
+//! for another scene. Every other command is [`Plain`]. `why` may precede a change, and no other command. The
 //! change is written as it is alone ([`Reading`]).
 //!
 //! [`read_line_in`] gives the one reading of a line of a version, whose names are slices of the line, or the
@@ -48,27 +49,28 @@
 //! ```
 //!
 //! An expression is a sum of terms with `+` and `-` between them and perhaps `-` in front. A term is a
-//! number, or a variable with perhaps `NUMBER *` or `RATIO *` in front; a variable is `NAME.ATTRIBUTE` or the
+//! number, or a variable with perhaps `NUMBER *` or `RATIO *` in front. A variable is `NAME.ATTRIBUTE` or the
 //! name of a metric. A relation is `==`, `<=` or `>=`, and a priority is a name or a number. An alignment is
 //! `left`, `right`, `top`, `bottom`, `centerX` or `centerY`.
 //!
 //! A name is a letter or `_` and then letters, digits and `_`. A number has 1 to 6 digits and perhaps a point
-//! and 1 to 3 digits; a whole number has 1 to 19 digits; a ratio is two whole numbers of 1 to 4 digits, the
-//! second not 0, with `/` between them. Each is as long as it can be and has no space inside, as has
-//! `NAME.ATTRIBUTE`. Spaces and tabs may stand between all others, and must where a letter, a digit or `_`
-//! would follow another, and behind the first word where more follows. The text of a tree begins at the first
-//! byte behind these and is all that follows, whatever its bytes; what it says isn't read here.
+//! and 1 to 3 digits. A whole number has 1 to 19 digits. A ratio is two whole numbers of 1 to 4 digits, the
+//! second not 0, with `/` between them. Each is as long as it can be and has no space inside, and neither has
+//! `NAME.ATTRIBUTE`. Between all others there may be spaces and tabs. There must be some if a letter, a digit
+//! or `_` would follow another, and after the first word if more follows. The text of a tree begins at the
+//! first byte after these and is all that follows, whatever its bytes. It isn't read here.
 //!
 //! A script of version 2 begins with the words `layout` and `2` in a line of their own, which
-//! [`is_version_line`] knows; that line is in neither grammar.
+//! [`is_version_line`] knows. That line is in neither grammar.
 //!
-//! What [`read_line_in`] keeps: a line has a reading or a place where it leaves the grammar
-//! ([`line_reads_or_leaves`]), one of these and no other ([`reading_is_unique`], [`offset_is_unique`]).
+//! The law of [`read_line_in`]: a line has a reading or a place where it leaves the grammar
+//! ([`line_reads_or_leaves`]), and only one of these ([`reading_is_unique`], [`offset_is_unique`]).
 //!
-//! In reading order: `words` (the words of the grammar), `command` (what a line says), `fractions` (numbers
-//! and ratios as fractions), `terms` and `sums` (expressions), `constraint`, `formats`, `suggestions`,
-//! `directions` and `sizes` (the lines of `constrain`, `vfl`, `suggest`, `release`, `direction` and `size`),
-//! `lines` (all others, and [`read_line_in`]), `versions` (how a script of version 2 begins), `laws`.
+//! In reading order: `words` (the words of the grammar), `command` (the meaning of a line), `fractions`
+//! (numbers and ratios as fractions), `terms` and `sums` (expressions), `constraint`, `formats`,
+//! `suggestions`, `directions` and `sizes` (the lines of `constrain`, `vfl`, `suggest`, `release`,
+//! `direction` and `size`), `lines` (all others, and [`read_line_in`]), `versions` (how a script of version 2
+//! begins), `laws`.
 #![tactic(auto)]
 
 mod command;

@@ -40,7 +40,7 @@ fn view_line(text: &[u8]) -> Result<Change<'_>, PartStop>
     }
 }
 
-// What follows the word `tree` in a line of this length.
+// The text after the word `tree`, in a line of this length.
 #[tactic(auto, unfolding(crate::specs::LineReading::tree_at))]
 fn tree_line(len: usize, text: &[u8]) -> Result<Change<'_>, PartStop>
     ensures { GivesOrMemory change_view result (tree_at len text.now) }
@@ -223,7 +223,7 @@ fn plain(word: PlainWord, text: &[u8]) -> Result<Plain, PartStop>
     }
 }
 
-/// The text behind the first word and the spaces that follow it.
+/// The text after the first word and the spaces that follow it.
 #[tactic(auto, unfolding(crate::specs::LineReading::apart_at))]
 pub(crate) fn apart(text: &[u8]) -> Result<&[u8], usize>
     ensures { Gives (λ t. t.now) result (apart_at text.now) }
@@ -244,7 +244,7 @@ fn changing(alloc: Global, len: usize, text: &[u8]) -> Result<Change<'_>, PartSt
     change(alloc, len, keyword, text)
 }
 
-// What follows the first word of a line of this length.
+// The text after the first word, in a line of this length.
 fn follows(alloc: Global, len: usize, word: FirstWord, text: &[u8]) -> Result<Reading<'_>, PartStop>
     ensures { GivesOrMemory reading_view result (follows_at len word text.now) }
 {
@@ -258,7 +258,7 @@ fn follows(alloc: Global, len: usize, word: FirstWord, text: &[u8]) -> Result<Re
     }
 }
 
-// A first word and what follows it, in a line of this length.
+// A first word and the text after it, in a line of this length.
 #[tactic(auto, unfolding(crate::specs::LineReading::said_at))]
 fn said(alloc: Global, len: usize, text: &[u8], version: Version) -> Result<Reading<'_>, PartStop>
     ensures { GivesOrMemory reading_view result (said_at (words_of version) len text.now) }
@@ -268,7 +268,7 @@ fn said(alloc: Global, len: usize, text: &[u8], version: Version) -> Result<Read
     follows(alloc, len, word, text)
 }
 
-// A line of this length behind the spaces in front of it.
+// A line of this length, after the spaces in front of it.
 #[tactic(auto, unfolding(crate::specs::LineReading::content_at))]
 fn content(
     alloc: Global,
@@ -290,7 +290,6 @@ fn content(
     }
 }
 
-// What a line says.
 #[tactic(auto, unfolding(crate::specs::LineReading::line_at))]
 fn any_line(alloc: Global, line: &[u8], version: Version) -> Result<Reading<'_>, PartStop>
     ensures { GivesOrMemory reading_view result (line_at (words_of version) line.now) }
@@ -299,8 +298,8 @@ fn any_line(alloc: Global, line: &[u8], version: Version) -> Result<Reading<'_>,
 }
 
 /// The one reading of a line by the grammar of this version. A line of the grammar is never refused as
-/// syntax; for any other the refusal has the length of its longest prefix that is a prefix of some line of
-/// the grammar. The line's bytes need not be a text.
+/// syntax. For any other line, the refusal has the length of its longest prefix that begins some line of the
+/// grammar. The line's bytes need not be a text.
 pub fn read_line_in(
     alloc: Global,
     line: &[u8],

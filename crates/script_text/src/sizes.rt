@@ -10,7 +10,7 @@ use crate::constraint::object;
 use crate::fractions::signed_number;
 use span_text::{Object, PartStop, names, numbers, pieces};
 
-// The priority behind the word `hug`, where that is written.
+// The priority after the word `hug`, if that is written.
 #[tactic(auto, unfolding(crate::specs::LineReading::hug_at))]
 fn hug(text: &[u8]) -> Result<(Option<Object<'_>>, &[u8]), usize>
     ensures { Gives (λ p. (object_view p.0, p.1.now)) result (hug_at text.now) }
@@ -22,7 +22,7 @@ fn hug(text: &[u8]) -> Result<(Option<Object<'_>>, &[u8]), usize>
     }
 }
 
-// The priority behind the word `resist`, where that is written.
+// The priority after the word `resist`, if that is written.
 #[tactic(auto, unfolding(crate::specs::LineReading::resist_at))]
 fn resist(text: &[u8]) -> Result<(Option<Object<'_>>, &[u8]), usize>
     ensures { Gives (λ p. (object_view p.0, p.1.now)) result (resist_at text.now) }
@@ -34,7 +34,7 @@ fn resist(text: &[u8]) -> Result<(Option<Object<'_>>, &[u8]), usize>
     }
 }
 
-// The priorities behind the name, the width and the height.
+// The priorities after the name, the width and the height.
 #[tactic(auto, unfolding(crate::specs::LineReading::pulls_at))]
 fn pulls<'a>(name: &'a str, width: u32, height: u32, text: &'a [u8]) -> Result<Change<'a>, PartStop>
     ensures { GivesOrMemory change_view result (pulls_at name.now width height text.now) }
@@ -51,7 +51,7 @@ fn pulls<'a>(name: &'a str, width: u32, height: u32, text: &'a [u8]) -> Result<C
     }))
 }
 
-/// What follows the word `size`.
+/// The text after the word `size`.
 #[tactic(auto, unfolding(crate::specs::LineReading::size_at))]
 pub fn size(text: &[u8]) -> Result<Change<'_>, PartStop>
     ensures { GivesOrMemory change_view result (size_at text.now) }

@@ -1,15 +1,12 @@
-// The words of the grammar that stand in tables.
-ghost use Rattle.std.specs.Prelude.{◌≡◌, ℕ, List};
-ghost use Rattle.std.specs.declared.result.Result.{Result};
+// The words of the grammar, by tables.
+ghost use Rattle.std.specs.Prelude.{◌≡◌};
 ghost use Rattle.span_text.specs.Gives.{Gives};
 ghost use Rattle.span_text.specs.Reading.{tried};
 ghost use Rattle.script_text.specs.Directions.{leading, trailing, turned};
 ghost use Rattle.script_text.specs.Grammar.{alignments, all_plain_words, attributes, change_words};
 ghost use Rattle.script_text.specs.Grammar.{changing_words, directions, new_change_words, over, plain_words};
 ghost use Rattle.script_text.specs.Grammar.{word_text, words_of};
-ghost use Rattle.script_text.specs.LineReading.{as_first};
-ghost use Rattle.script_text.specs.declared.words.ChangeWord as change_type;
-ghost use Rattle.script_text.specs.declared.words.PlainWord as plain_type;
+ghost use Rattle.script_text.specs.FoundWords.{GivesBefore, GivesFirst};
 
 use span_text::pieces::or_else;
 
@@ -59,7 +56,7 @@ pub enum Version {
     Two,
 }
 
-/// The side from which views stand one behind the other, as a text is read: from the left, or from the right.
+/// The side from which views follow each other, as a text is read: from the left, or from the right.
 #[derive(Clone, Copy)]
 pub enum Direction {
     Ltr,
@@ -113,7 +110,7 @@ fn trailing(to: Direction) -> AttrWord
 }
 
 impl AttrWord {
-    /// The same attribute in this direction, by the word that it has in both: `leading` and `trailing` are
+    /// The same attribute in this direction, by the word that names it in both: `leading` and `trailing` are
     /// left or right.
     pub fn turned(self, to: Direction) -> AttrWord
         ensures { result ≡ turned to self }
@@ -144,13 +141,13 @@ impl AttrWord {
     }
 }
 
-// The word of a change of both versions, and the text right after it; or the answer of the other words.
+// The word of a change of both versions, and the text right after it. If the text begins with none, the
+// answer of the other words.
 fn change_word<'a>(
     text: &'a [u8],
     other: Result<(ChangeWord, &'a [u8]), usize>,
 ) -> Result<(ChangeWord, &'a [u8]), usize>
-    ensures { (r : Result (change_type.ChangeWord × List ℕ) ℕ) → Gives (λ p. (p.0, p.1.now)) other.entry r
-        → Gives (λ p. (p.0, p.1.now)) result (over change_words text.now r) }
+    ensures { GivesBefore other.entry result (over change_words text.now) }
 {
     let found = or_else(b"release", ChangeWord::Release, text, other);
     let found = or_else(b"suggest", ChangeWord::Suggest, text, found);
@@ -181,14 +178,13 @@ pub fn changing_word(text: &[u8]) -> Result<(ChangeWord, &[u8]), usize>
     change_word(text, new_change_word(text))
 }
 
-// The word of another command of both versions, and the text right after it; or the answer of the other
-// words.
+// The word of another command of both versions, and the text right after it. If the text begins with none,
+// the answer of the other words.
 fn plain_word<'a>(
     text: &'a [u8],
     other: Result<(PlainWord, &'a [u8]), usize>,
 ) -> Result<(PlainWord, &'a [u8]), usize>
-    ensures { (r : Result (plain_type.PlainWord × List ℕ) ℕ) → Gives (λ p. (p.0, p.1.now)) other.entry r
-        → Gives (λ p. (p.0, p.1.now)) result (over plain_words text.now r) }
+    ensures { GivesBefore other.entry result (over plain_words text.now) }
 {
     let found = or_else(b"certify", PlainWord::Certify, text, other);
     let found = or_else(b"diagnose", PlainWord::Diagnose, text, found);
@@ -211,9 +207,7 @@ fn first_of<'a>(
     change: Result<(ChangeWord, &'a [u8]), usize>,
     plain: Result<(PlainWord, &'a [u8]), usize>,
 ) -> Result<(FirstWord, &'a [u8]), usize>
-    ensures { (r : Result (change_type.ChangeWord × List ℕ) ℕ) → Gives (λ p. (p.0, p.1.now)) change.entry r
-        → (q : Result (plain_type.PlainWord × List ℕ) ℕ) → Gives (λ p. (p.0, p.1.now)) plain.entry q
-        → Gives (λ p. (p.0, p.1.now)) result (as_first r q) }
+    ensures { GivesFirst change.entry plain.entry result }
 {
     match change {
         Ok((word, rest)) => Ok((FirstWord::Change(word), rest)),
@@ -224,7 +218,7 @@ fn first_of<'a>(
     }
 }
 
-/// The first word of a line of this version, and the text at once behind it.
+/// The first word of a line of this version, and the text right after it.
 pub fn first_word(text: &[u8], version: Version) -> Result<(FirstWord, &[u8]), usize>
     ensures { Gives (λ p. (p.0, p.1.now)) result (tried (words_of version) text.now) }
 {
@@ -240,7 +234,7 @@ pub fn first_word(text: &[u8], version: Version) -> Result<(FirstWord, &[u8]), u
     }
 }
 
-/// The direction's word and the text at once behind it.
+/// The direction's word and the text right after it.
 pub fn direction_word(text: &[u8]) -> Result<(Direction, &[u8]), usize>
     ensures { Gives (λ p. (p.0, p.1.now)) result (tried directions text.now) }
 {
@@ -248,7 +242,7 @@ pub fn direction_word(text: &[u8]) -> Result<(Direction, &[u8]), usize>
     or_else(b"ltr", Direction::Ltr, text, found)
 }
 
-/// The attribute's word and the text at once behind it.
+/// The attribute's word and the text right after it.
 pub fn attribute_word(text: &[u8]) -> Result<(AttrWord, &[u8]), usize>
     ensures { Gives (λ p. (p.0, p.1.now)) result (tried attributes text.now) }
 {
@@ -264,7 +258,7 @@ pub fn attribute_word(text: &[u8]) -> Result<(AttrWord, &[u8]), usize>
     or_else(b"left", AttrWord::Left, text, found)
 }
 
-/// The alignment's word and the text at once behind it.
+/// The alignment's word and the text right after it.
 pub fn align_word(text: &[u8]) -> Result<(Align, &[u8]), usize>
     ensures { Gives (λ p. (p.0, p.1.now)) result (tried alignments text.now) }
 {
