@@ -1,8 +1,9 @@
 // The cases of the input and what each leads to.
+use crate::table::put_table;
 use crate::tested::Tested;
 use frac_core::OutOfMemory;
 use std::alloc::Global;
-use test_runs::{put_run, put_table};
+use test_runs::put_run;
 use test_text::{Cases, cases_text, push_escaped};
 
 // Appends what the text below a heading leads to.

@@ -14,10 +14,12 @@
 //! window 320 480          each reply is printed, then how the run ended and how often it pulled
 //! ```
 //!
-//! In reading order: `cases` (the headings), `tested` (the program, as `test_runs` asks for it).
+//! In reading order: `cases` (the headings), `tested` (the program, as `test_runs` asks for it), `table` (each
+//! call fails in turn).
 #![tactic(auto)]
 
 mod cases;
+mod table;
 mod tested;
 
 use crate::cases::printed;

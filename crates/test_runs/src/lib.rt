@@ -9,7 +9,7 @@
 //! - `room N`: the sink has room for so many bytes;
 //! - `std`: the run reads and writes by a reader and a writer of std.
 //!
-//! What a session's lines say, `sessions` tells; [`put_table`] and [`put_paths`] read scripts.
+//! What a session's lines say, `sessions` tells; [`put_paths`] reads a script.
 //!
 //! ```
 //! // of a program, and of a session with a checker, traits say what is asked
@@ -21,9 +21,8 @@
 //! session.
 //!
 //! In reading order: `tested` (what is asked of a program, a checker and a session), `lines`, `options`,
-//! `inputs`, `runs`, `table` (each call fails in turn); `verdicts` (what the checker says), `cores`,
-//! `drawn_lines`, `drawing`, `sessions`; `stops`, `posed` (the problem that a path speaks of), `wishes`,
-//! `paths`.
+//! `inputs`, `runs`; `verdicts` (what the checker says), `cores`, `drawn_lines`, `drawing`, `sessions`;
+//! `stops`, `posed` (the problem that a path speaks of), `wishes`, `paths`.
 #![tactic(auto)]
 
 mod cores;
@@ -37,13 +36,12 @@ mod posed;
 mod runs;
 mod sessions;
 mod stops;
-mod table;
 mod tested;
 mod verdicts;
 mod wishes;
 
+pub use inputs::{calls, words_of};
 pub use paths::put_paths;
-pub use runs::put_run;
+pub use runs::{put_ended, put_run};
 pub use sessions::put_lines;
-pub use table::put_table;
 pub use tested::{Answer, Checker, Kind, Program, Talk};

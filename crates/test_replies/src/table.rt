@@ -5,12 +5,10 @@
 // so on. Each line ends with the first run that ends as one without a fault. A line tells how many bytes each
 // run leaves, with its status where that is another than the status before, and says `no front` of bytes that
 // are no front of the whole output.
-use crate::inputs::{calls, words_of};
-use crate::runs::put_ended;
-use crate::tested::Program;
 use edge_io::{MemorySink, MemorySource};
 use frac_core::OutOfMemory;
 use std::alloc::Global;
+use test_runs::{Program, calls, put_ended, words_of};
 
 // The greatest sizes of a pull.
 const SIZES: [usize; 3] = [1, 2, 5];
