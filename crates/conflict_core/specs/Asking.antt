@@ -1,4 +1,4 @@
--- What an engine says of a request's problem.
+-- What is known of a request's problem.
 use Rattle.problem_core.specs.Layout.{Assignment, Problem, Satisfies}
 use Rattle.cert_core.specs.Stops.{IsShownConflict}
 use Rattle.conflict_core.specs.declared.asking.Known.{Known}

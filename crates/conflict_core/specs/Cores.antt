@@ -1,4 +1,4 @@
--- Cores: required rows that have no solution together, of which each is needed for that.
+-- Cores: required rows that have no solution together, each of which is needed for that.
 use Rattle.std.specs.Prelude.{◌≡◌, ◌<◌, ◌&&◌, ℕ, Bool, not, nat_eq, List, filter, All, AllPairs, Any}
 use Rattle.std.specs.List.{list_any}
 use Rattle.problem_core.specs.declared.limits.TheConstants.{REQUIRED}

@@ -1,4 +1,4 @@
--- A command that clashes with what is held: what is a core there, and what is none; and where a trial stops.
+-- A command that clashes with what is held: a core, what is no core, and when a trial stops.
 use Rattle.std.specs.Prelude.{◌≡◌, ℕ, List, [], ◌∷◌, ◌++◌, ℤ, pos, negsuc}
 use Rattle.std.specs.Global.{Vec}
 use Rattle.frac_core.specs.Fraction.{Fraction}
@@ -70,7 +70,7 @@ pub record SomeAreCores : Type 0 where
 abbrev pub once_and : ℤ → List By
 once_and times = record { row = Held 7; times = pos 1 } ∷ record { row = Held 9; times = times } ∷ []
 
--- all attributes at 0, but a's width at so many points
+-- all attributes at 0, except a's width at so many points
 abbrev pub with_width : ℕ → List (ℕ × Fraction)
 with_width n = (1, zero_fraction) ∷ (2, zero_fraction) ∷ (3, zero_fraction) ∷ (4, zero_fraction)
     ∷ (5, zero_fraction) ∷ (6, zero_fraction) ∷ (a_width, points n) ∷ (8, zero_fraction) ∷ []

@@ -1,4 +1,4 @@
--- What a core is by: the laws of cores, and of what shows one.
+-- The laws of cores, and of what shows one.
 use Rattle.std.specs.Prelude.{◌≡◌, ◌≢◌, ℕ, ◌+◌, ◌^◌, ◌≤◌, List, [], length, All, Contains}
 use Rattle.frac_core.specs.Fraction.{Fraction}
 use Rattle.problem_core.specs.Layout.{IsInConflict, Problem}
@@ -27,7 +27,7 @@ abbrev pub ProperPartsAreSolvable : Type 0
 ProperPartsAreSolvable = (p : Problem) (ids part : List ℕ) (id : ℕ) → IsCore p ids
     → All (Contains ids) part → Contains ids id → (Contains part id → ⊥) → IsInConflict (trial p part) → ⊥
 
--- a problem is found solvable just where it isn't in conflict
+-- a problem is found solvable exactly if it isn't in conflict
 pub record FoundDecides : Type 0 where
   pub solvable : (p : Problem) (f : Found) → IsFound p f → f ≡ Solvable → IsInConflict p → ⊥
   pub core : (p : Problem) (f : Found) → IsWhole p → IsFound p f → f ≢ Solvable → IsInConflict p
@@ -38,7 +38,7 @@ pub record HasRoom (p : Problem) (budget : ℕ) : Type 0 where
   pub exchanges : 3 ^ (length p.rows + length p.stays) ≤ budget
   pub fits : (ids : List ℕ) → AreRequired p ids → AllFit (trial p ids) []
 
--- with room nothing stops but for want of memory
+-- with room, a trial stops only if memory runs out
 abbrev pub CoresAreFound : Type 0
 CoresAreFound = (p : Problem) (budget : ℕ) (stop : CoreStop) → IsWhole p → HasRoom p budget
     → IsCoreStop p budget stop → stop ≡ OutOfMemory

@@ -1,4 +1,4 @@
--- Trials: what becomes of some required rows on an engine that holds nothing.
+-- Trials: some required rows on an empty engine.
 use Rattle.std.specs.Prelude.{ℕ, false, List, []}
 use Rattle.problem_core.specs.Layout.{Problem}
 use Rattle.cert_core.specs.Stops.{IsShownConflict, IsStopOf}
@@ -22,12 +22,12 @@ abbrev pub IsOutcome : Problem → List ℕ → Outcome → Type 0
 IsOutcome p ids (Solved values) = IsSolution (trial p ids) values
 IsOutcome p ids (Refuted by) = IsShownConflict (trial p ids) by
 
--- so stops what adds all attributes and the rows of these numbers to an engine that holds nothing
+-- how the addition of all attributes and the rows of these numbers to an empty engine stops
 abbrev pub IsStopOfTrial : Problem → List ℕ → ℕ → RunStop → Type 0
 IsStopOfTrial p ids budget stop =
     IsStopOf false (trial p ids) [] (FromAdded (trial p ids) [] (trial p ids).rows) budget stop
 
--- so stops the trial of the required rows that are held; or memory is wanting
+-- how the trial of the held required rows stops, or memory ran out
 abbrev pub IsCoreStop : Problem → ℕ → CoreStop → Type 0
 IsCoreStop p budget (Unfit held at) = AreRequired p held.items
     × IsStopOfTrial p held.items budget (run.Unfit at)

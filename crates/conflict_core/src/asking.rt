@@ -1,4 +1,4 @@
-// What an engine says of a request's problem.
+// Asks an engine about a request's problem.
 ghost use Rattle.std.specs.Prelude.{◌≡◌, ◌<◌, ℕ, length, IfOk};
 ghost use Rattle.version_lists.specs.declared.versions.TheConstants.{VERSION_LIMIT};
 ghost use Rattle.layout_solver.specs.Layouts as layouts;
@@ -19,7 +19,7 @@ pub(crate) enum Known {
     Nothing,
 }
 
-// What is known where the engine stopped so.
+// What is known after such a stop of the engine.
 fn stopped(stop: RequestStop) -> Result<Known, OutOfMemory>
     ensures { IfOk result (λ known. (l : layouts.Layout) (request : requests.Request) (budget : ℕ)
         → IsRequestStop l request budget stop → IsKnown (posed_by l request) known) }
@@ -31,7 +31,7 @@ fn stopped(stop: RequestStop) -> Result<Known, OutOfMemory>
     }
 }
 
-/// What is known of the request's problem once the engine has tried to solve it. The engine is as before.
+/// What is known of the request's problem after the engine tried to solve it. The engine does not change.
 pub(crate) fn asked(e: &mut Engine, request: &Request, budget: u64) -> Result<Known, OutOfMemory>
     requires room { length e.old.earlier < VERSION_LIMIT }
     requires can { CanSolve e.old request.now }

@@ -1,4 +1,4 @@
-// What the required rows of a problem come to.
+// Whether the required rows of a problem have a solution.
 ghost use Rattle.std.specs.Prelude.{◌≡◌, ◌<◌, ℕ, List, length, map, IfOk, IfErr};
 ghost use Rattle.version_lists.specs.declared.versions.TheConstants.{VERSION_LIMIT};
 ghost use Rattle.problem_core.specs.Certificates.{required};
@@ -20,7 +20,7 @@ use layout_solver::{Engine, Request};
 use problem_core::{Problem, numbers_of};
 use std::alloc::Global;
 
-// A core of the rows that these multipliers name, which refute some required rows.
+// A core of the rows that these multipliers name. They refute some required rows.
 fn found_among(e: &mut Engine, t: &Trials, by: Conflict) -> Result<Found, CoreStop>
     requires nothing { e.old ≡ nothing }
     requires trials { AreTrials t.now }
@@ -34,7 +34,7 @@ fn found_among(e: &mut Engine, t: &Trials, by: Conflict) -> Result<Found, CoreSt
     searched(e, t, s)
 }
 
-// What all required rows come to, which are these.
+// The outcome for all required rows, which are these.
 fn found_of(e: &mut Engine, t: &Trials, all: &[u32]) -> Result<Found, CoreStop>
     requires nothing { e.old ≡ nothing }
     requires trials { AreTrials t.now }
@@ -75,11 +75,11 @@ fn found_anew_among(t: &Trials, by: Conflict) -> Result<Found, CoreStop>
     found
 }
 
-/// Whether the required rows have a solution, and if they have none, a core of them: rows that clash, each of
-/// which is needed for that.
+/// Whether the required rows have a solution. If they have none, a core of them: rows that clash, each of
+/// which is needed for the clash.
 ///
-/// `Unfit` and `Spent` are those of one trial, an addition of the rows that are named as held to an engine
-/// that holds nothing, with the whole budget.
+/// `Unfit` and `Spent` are those of one trial, which adds the rows that are named as held to an empty engine,
+/// with the whole budget.
 pub fn core(alloc: Global, p: &Problem, budget: u64) -> Result<Found, CoreStop>
     ensures found { IfOk result (IsFound p.now) }
     ensures stop { IfErr result (IsCoreStop p.now budget) }
@@ -98,7 +98,7 @@ pub fn core(alloc: Global, p: &Problem, budget: u64) -> Result<Found, CoreStop>
     found_anew(&trials, &all)
 }
 
-/// A core of the rows that these multipliers name, which refute the problem. That spares the trial of all
+/// A core of the rows that these multipliers name. They refute the problem, which saves the trial of all
 /// required rows.
 ///
 /// The stops are those of `core`.
@@ -120,9 +120,9 @@ pub fn core_among(alloc: Global, p: &Problem, by: Conflict, budget: u64) -> Resu
     found_anew_among(&trials, by)
 }
 
-/// The same as `core` for the problem of a request to an engine, which is asked first, and is as before: its
-/// path is short, and ends at values, or at multipliers that name few rows. If it stops in another way, the
-/// search begins from nothing.
+/// The same as `core` for the problem of a request to an engine. The engine is asked first, because its path
+/// is short and ends at values, or at multipliers that name few rows. If it stops in another way, the search
+/// begins from nothing. The engine does not change.
 ///
 /// The stops are those of `core`.
 pub fn core_of(

@@ -1,4 +1,4 @@
-// What is found of a problem, and why a trial stops.
+// Answers about a problem, and why a trial stops.
 ghost use Rattle.std.specs.Prelude.{◌≡◌};
 
 use cert_core::{Conflict, Path, UnfitPath};
@@ -6,15 +6,15 @@ use frac_core::OutOfMemory;
 use problem_core::Values;
 use thiserror::Error;
 
-/// What the required rows of a problem come to.
+/// Whether the required rows of a problem have a solution.
 #[derive(Debug, Drop)]
 pub enum Found {
     /// They have a solution.
     Solvable,
-    /// These have none, by number, and without any one of them the others have one.
+    /// The rows of these numbers have none, and without any one of them the others have one.
     Core {
         rows: Vec<u32>,
-        /// The multipliers that refute them, of each row one that isn't 0.
+        /// The multipliers that refute them, one for each row, none of them 0.
         by: Conflict,
         /// Each row with values of all attributes that satisfy the others.
         without: Vec<(u32, Values)>,
@@ -30,7 +30,7 @@ pub enum CoreStop {
     /// The path has as many exchanges as the budget, while these rows are held.
     #[error("the exchanges are used up")]
     Spent { held: Vec<u32>, path: Path },
-    /// Memory is wanting.
+    /// Memory ran out.
     #[error("memory is wanting")]
     OutOfMemory,
 }

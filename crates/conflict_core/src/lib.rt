@@ -1,9 +1,9 @@
-//! Why required rows have no solution together: a core of them, rows that clash and of which each is needed
-//! for that.
+//! Why required rows have no solution: a core of them, rows that clash, each of which is needed for the
+//! clash.
 //!
-//! [`core`] tells whether the required rows of a problem have a solution. If they have none, it finds some of
-//! them that have none either, but do once any one of them is left out: an irreducible conflict. It shows
-//! both, by multipliers that refute these rows, and for each row by values that satisfy the others.
+//! [`core`] says whether the required rows of a problem have a solution. If they have none, it finds some of
+//! them that have none either, but have one without any one of them: an irreducible conflict. It shows both:
+//! multipliers refute these rows, and for each row there are values that satisfy the others.
 //!
 //! ```
 //! // a row 7: attribute 1 is at least 200; a row 8: attribute 2 is at least 0; a row 9: attribute 1 is at
@@ -17,19 +17,19 @@
 //! ```
 //!
 //! A trial is an addition of some required rows, and of all attributes at 0, to an engine that holds nothing
-//! ([`layout_solver::Request::Add`]), with the whole budget. The first one has all required rows. Where they
-//! clash, the multipliers name rows that clash by themselves, and from then on each trial leaves one of
-//! these out. If the others have a solution, its values are kept. If they clash too, their multipliers name
-//! still fewer rows. That ends when there are values without each row.
+//! ([`layout_solver::Request::Add`]), with the whole budget. The first one has all required rows. If they
+//! clash, the multipliers name rows that clash by themselves, and from then on each trial leaves one of these
+//! out. If the others have a solution, its values are kept. If they clash too, their multipliers name still
+//! fewer rows. The search ends when there are values without each row.
 //!
-//! Before that one engine is given all rows of the multipliers at once, where the first one gives way: its
-//! constant is moved by what the rows clash, so that all of them hold just so. From there each next row gives
+//! Before that, one engine gets all rows of the multipliers at once, and the first one gives way: its
+//! constant moves by as much as the rows clash, so that all of them just hold. From there each next row gives
 //! way in turn by a change of two constants ([`layout_solver::Request::Shift`]), which takes few exchanges or
-//! none. Where that stops, the trials go on.
+//! none. If that stops, the trials go on.
 //!
-//! The first trial is the dearest. Multipliers spare it ([`core_among`]), and so does an engine of which the
-//! problem is a request ([`core_of`]): it solves the request, which takes a short path to values or to
-//! multipliers, and goes back.
+//! The first trial costs most. Multipliers save it ([`core_among`]), and so does an engine if the problem is
+//! that of a request to it ([`core_of`]): it solves the request, by a short path to values or multipliers,
+//! and goes back.
 //!
 //! | Clause | Says |
 //! |---|---|
@@ -37,8 +37,8 @@
 //! | `stop` | the trial of the rows that are named as held stops so on an engine that holds nothing |
 //! | `same` | the engine that is asked is as before |
 //!
-//! The laws say what that is worth: what is shown is a core ([`shown_is_core`]), so the problem is in
-//! conflict ([`core_is_conflict`], [`found_decides`]), and whatever is less than a core has a solution
+//! The laws say what a result means: what is shown is a core ([`shown_is_core`]), so the problem is in
+//! conflict ([`core_is_conflict`], [`found_decides`]), and some but not all rows of a core have a solution
 //! ([`proper_parts_are_solvable`]). With room for numbers and exchanges nothing stops ([`cores_are_found`]).
 //!
 //! In linear programming's words a core is an irreducible infeasible subsystem (IIS), the multipliers are
@@ -46,10 +46,10 @@
 //! infeasible constraint sets in linear programs, 1991), begun from the support of the multipliers and
 //! narrowed to that of each infeasible trial.
 //!
-//! To read: `found` (what is answered), `listing` (rows and attributes of a problem), `trials` (one trial),
-//! `search` (from rows that clash to a core), `yielding` (values without each of them on one engine),
-//! `asking` (what an engine says of a request), `finding` ([`core`]), `laws`;
-//! `specs/Cores.antt` says what a core is, and `specs/Shown.antt` what shows one.
+//! In reading order: `found` (the answers), `listing` (rows and attributes of a problem), `trials` (one
+//! trial), `search` (from rows that clash to a core), `yielding` (values without each of them on one engine),
+//! `asking` (what an engine says of a request), `finding` ([`core`]), `laws`; `specs/Cores.antt` says what a
+//! core is, and `specs/Shown.antt` what shows one.
 #![tactic(auto)]
 
 mod asking;

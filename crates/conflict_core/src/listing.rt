@@ -1,4 +1,4 @@
-// Lists of what a problem has, and of what multipliers name.
+// Lists of a problem's rows and attributes, and of the rows that multipliers name.
 ghost use Rattle.std.specs.Prelude.{◌≡◌, ◌<◌, ◌++◌, map, filter, [], ◌∷◌, AllPairs, IfOk};
 ghost use Rattle.problem_core.specs.Certificates.{required};
 ghost use Rattle.layout_solver.specs.Starts.{attrs_of};
@@ -21,7 +21,7 @@ pub(crate) fn attributes(alloc: Global, p: &Problem) -> Result<Vec<u32>, OutOfMe
     Ok(out)
 }
 
-/// The numbers of the required rows, which rise.
+/// The numbers of the required rows, rising.
 pub(crate) fn required_rows(alloc: Global, p: &Problem) -> Result<Vec<u32>, OutOfMemory>
     ensures { IfOk result (λ ids. ids.items ≡ map (λ r. r.id) (required p.now)) }
 {
@@ -50,7 +50,7 @@ fn is_tried(ids: &[u32], row: &Row) -> bool
     row.rank() == REQUIRED && is_among(ids, row.id())
 }
 
-// Puts a copy of the row behind the others, if it is tried.
+// Appends a copy of the row, if it is tried.
 fn push_tried(out: &mut Vec<Row>, ids: &[u32], row: &Row) -> Result<(), OutOfMemory>
     requires { AllPairs (λ a b. a < b) ids.now }
     ensures { IfOk result
@@ -74,7 +74,7 @@ pub(crate) fn tried_rows(alloc: Global, p: &Problem, ids: &[u32]) -> Result<Vec<
     Ok(out)
 }
 
-/// These numbers but one.
+/// These numbers, except one.
 pub(crate) fn without(alloc: Global, id: u32, ids: &[u32]) -> Result<Vec<u32>, OutOfMemory>
     ensures { IfOk result (λ less. less.items ≡ cores.without id ids.now) }
 {
@@ -87,7 +87,7 @@ pub(crate) fn without(alloc: Global, id: u32, ids: &[u32]) -> Result<Vec<u32>, O
     Ok(out)
 }
 
-// Puts the row's number behind the others, if it is no stay's row.
+// Appends the row's number, unless it is a stay's row.
 fn push_number(out: &mut Vec<u32>, row: RowName) -> Result<(), OutOfMemory>
     ensures { IfOk result (λ _. out.new.items ≡ out.old.items ++ searches.numbered row []) }
 {

@@ -18,8 +18,7 @@ use layout_solver::Engine;
 use problem_core::{Problem, Values};
 use std::alloc::Global;
 
-/// Rows that clash, with multipliers that name just them, and for each of the first ones values that satisfy
-/// the others.
+/// Rows that clash, with multipliers that name just them, and values without each of the first of them.
 #[derive(Drop)]
 pub(crate) struct Search {
     pub rows: Vec<u32>,
@@ -27,7 +26,7 @@ pub(crate) struct Search {
     pub without: Vec<(u32, Values)>,
 }
 
-/// Where these multipliers refute some required rows, the search among those that they name.
+/// The search among the rows that these multipliers name. They refute some required rows.
 pub(crate) fn begun(alloc: Global, by: Conflict) -> Result<Search, OutOfMemory>
     ensures { IfOk result (λ s. (p : layout.Problem) (ids : List ℕ) → IsWhole p
         → IsShownConflict (trial p ids) by → IsSearch p s) }
@@ -60,7 +59,7 @@ fn narrow(alloc: Global, s: &mut Search, by: Conflict) -> Result<(), OutOfMemory
     Ok(())
 }
 
-// Tries the rows without the next one, for which there are no values yet.
+// Tries the rows without the next one that has no values yet.
 fn step(e: &mut Engine, t: &Trials, s: &mut Search) -> Result<(), CoreStop>
     requires nothing { e.old ≡ nothing }
     requires trials { AreTrials t.now }

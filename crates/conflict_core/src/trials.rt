@@ -1,4 +1,4 @@
-// Trials: some required rows on an engine that holds nothing.
+// Trials: some required rows on an empty engine.
 ghost use Rattle.std.specs.Prelude.{◌≡◌, ◌<◌, ℕ, [], ◌∷◌, length, map, All, AllPairs, IfOk, IfErr, OnErr};
 ghost use Rattle.problem_core.specs.Gaps.{value_of};
 ghost use Rattle.problem_core.specs.Layout as layout;
@@ -17,8 +17,8 @@ use layout_solver::{Engine, Request, RequestStop};
 use problem_core::{Problem, Values};
 use std::alloc::Global;
 
-/// What is tried: a problem, its attributes in the order of their stays and by number, and the budget of each
-/// trial; and where memory comes from.
+/// The problem that is tried, its attributes in the order of their stays and by number, the budget of each
+/// trial, and the allocator.
 #[derive(Drop)]
 pub(crate) struct Trials<'a> {
     pub alloc: Global,
@@ -28,7 +28,7 @@ pub(crate) struct Trials<'a> {
     pub budget: u64,
 }
 
-/// What some required rows come to: they have these values as a solution, or these multipliers refute them.
+/// The outcome for some required rows: a solution, or multipliers that refute them.
 #[derive(Drop)]
 pub(crate) enum Outcome {
     Solved(Values),
@@ -42,7 +42,7 @@ pub(crate) fn copied(alloc: Global, ids: &[u32]) -> Result<Vec<u32>, OutOfMemory
     Ok(Vec::from_slice(alloc, ids)?)
 }
 
-// Adds all attributes and the rows of these numbers to an engine that holds nothing.
+// Adds all attributes and the rows of these numbers to an empty engine.
 fn add_rows(e: &mut Engine, t: &Trials, ids: &[u32]) -> Result<(), RequestStop>
     requires nothing { e.old ≡ nothing }
     requires trials { AreTrials t.now }
@@ -94,7 +94,7 @@ fn taken(alloc: Global, e: &mut Engine, attrs: &[u32]) -> Result<Values, OutOfMe
     values
 }
 
-// What the trial of these rows comes to, where the engine stopped so.
+// The outcome of the trial of these rows after such a stop of the engine.
 fn outcome_of(alloc: Global, ids: &[u32], stop: RequestStop) -> Result<Outcome, CoreStop>
     ensures refuted { IfOk result (λ outcome. (p : layout.Problem) (budget : ℕ)
         → IsStopOfTrial p ids.now budget (run_of stop) → IsOutcome p ids.now outcome) }
@@ -115,9 +115,9 @@ fn outcome_of(alloc: Global, ids: &[u32], stop: RequestStop) -> Result<Outcome, 
     }
 }
 
-/// What these required rows come to. The engine, which holds nothing, is as before.
+/// The outcome for these required rows. The engine is empty, and does not change.
 ///
-/// `Unfit` and `Spent` are those of [`Engine::solve`], where these rows are added.
+/// `Unfit` and `Spent` are those of [`Engine::solve`] for adding these rows.
 pub(crate) fn tried(e: &mut Engine, t: &Trials, ids: &[u32]) -> Result<Outcome, CoreStop>
     requires nothing { e.old ≡ nothing }
     requires trials { AreTrials t.now }

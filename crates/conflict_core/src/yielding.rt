@@ -58,7 +58,7 @@ fn less_part(all: Frac, fraction: Frac, parts: i64) -> Option<Frac> {
     }
 }
 
-// Rows that clash by so much: the sum of their constants, each as often as its multiplier says.
+// By how much rows clash: the sum of their constants, each times its multiplier.
 #[derive(Drop)]
 struct Clash<'a> {
     rows: &'a [Row],
@@ -78,7 +78,7 @@ fn clash_sum(rows: &[Row], by: &Conflict) -> Option<Frac>
     Some(sum)
 }
 
-// The constant with which the row gives way, where it is so many times in the sum of the clash.
+// The constant with which the row gives way, if it counts so many times in the sum.
 fn yielded(own: &Change, times: i64, clash: Frac) -> Option<Change>
     ensures { IfSome result (λ c. (c.row ≡ own.now.row) × IsKept c.constant) }
 {
@@ -134,7 +134,7 @@ fn changed(alloc: Global, row: &Row, to: &Change) -> Result<Row, OutOfMemory>
     )
 }
 
-// Copies of the rows, of which one gets another constant.
+// Copies of the rows, one of them with another constant.
 fn all_changed(alloc: Global, rows: &[Row], to: &Change) -> Result<Vec<Row>, OutOfMemory>
     requires kept { IsKept to.now.constant }
     ensures { IfOk result (λ out. out.items ≡ shifted (to.now ∷ []) rows.now) }
@@ -146,7 +146,7 @@ fn all_changed(alloc: Global, rows: &[Row], to: &Change) -> Result<Vec<Row>, Out
     Ok(out)
 }
 
-// Adds all attributes and the rows, of which one gives way, to an engine that holds nothing.
+// Adds all attributes and the rows to an empty engine. One row gives way.
 fn begin(
     e: &mut Engine,
     t: &Trials,
@@ -199,8 +199,8 @@ fn may_get_both(rows: &[Row], first: &Change, next: &Change) -> bool
     first.row < next.row && may_get(rows, first) && may_get(rows, next)
 }
 
-// The row that gave way gets its own constant again, and the next one gives way. Whether that comes to an
-// end. It has six parameters: what the engine holds is told by three, and two rows change.
+// The row that gave way gets its own constant again, and the next one gives way. Returns whether the run
+// ends. It has six parameters: three say what the engine holds, and two rows change.
 fn is_next(e: &mut Engine, t: &Trials, s: &Search, rows: &[Row], last: &Change, to: &Change) -> bool
     requires trials { AreTrials t.now }
     requires rows { rows.now ≡ (trial t.now.problem.now s.now.rows.items).rows }
@@ -233,7 +233,7 @@ fn next_yielded(s: &Search, clash: &Clash) -> Option<Change>
     yielded(&own, s.by.by().get(i)?.times, clash.sum)
 }
 
-// Keeps the values of an engine, in which the next row gives way.
+// Keeps the values of an engine in which the next row gives way.
 fn keep_values(e: &Engine, t: &Trials, s: &mut Search, to: &Change) -> Result<(), OutOfMemory>
     requires trials { AreTrials t.now }
     requires search { IsSearch t.now.problem.now s.old }
@@ -249,7 +249,7 @@ fn keep_values(e: &Engine, t: &Trials, s: &mut Search, to: &Change) -> Result<()
     Ok(())
 }
 
-// Goes on from the row that gave way last to the others, as far as that comes to an end.
+// Goes on from the row that gave way last to the others, as long as the runs end.
 fn go_on(
     e: &mut Engine,
     t: &Trials,
@@ -278,7 +278,7 @@ fn go_on(
     Ok(())
 }
 
-// The first row gives way on an engine that holds nothing, then the others.
+// The first row gives way on an empty engine, then the others.
 fn give_way_from(
     e: &mut Engine,
     t: &Trials,
@@ -322,7 +322,7 @@ fn give_way_anew(
     given
 }
 
-// The rows give way in turn, as far as numbers fit and that comes to an end.
+// The rows give way in turn, as long as numbers fit and the runs end.
 fn give_way(t: &Trials, s: &mut Search, rows: &[Row]) -> Result<(), OutOfMemory>
     requires trials { AreTrials t.now }
     requires rows { rows.now ≡ (trial t.now.problem.now s.old.rows.items).rows }

@@ -1,4 +1,4 @@
--- What is best where the stays are left out, and which attributes move among it.
+-- The best assignments without the stays, and the attributes that move among them.
 use Rattle.std.specs.Prelude.{◌≡◌, ◌≢◌, ◌⊎◌, ℕ, ◌*◌, ◌<◌, ◌≤◌, pos, ◌+ℤ◌, ◌-ℤ◌, ◌*ℤ◌, ◌<ℤ◌, ◌≤ℤ◌}
 use Rattle.frac_core.specs.Fraction.{Fraction}
 use Rattle.problem_core.specs.declared.limits.TheConstants.{REQUIRED}
@@ -59,7 +59,7 @@ pub record IsLeastDown (p : Problem) (attr : ℕ) (v f : Fraction) : Type 0 wher
   pub reached : (x : Assignment) × IsLooselyBest p x × Reaches x attr f × IsDownToLast x attr v
   pub least : (y : Assignment) → IsLooselyBest p y → IsDownToLast y attr v → IsBelow y attr f → ⊥
 
--- the attribute moves from v to f: up where something above v is reached, else down where something below is
+-- the attribute moves from v to f: up if something above v is reached, otherwise down if something below is
 abbrev pub IsMove : Problem → ℕ → Fraction → Fraction → Type 0
 IsMove p attr v f = (GoesAbove p attr v × IsGreatestUp p attr v f)
     ⊎ ((GoesAbove p attr v → ⊥) × GoesBelow p attr v × IsLeastDown p attr v f)

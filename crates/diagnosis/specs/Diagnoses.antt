@@ -1,4 +1,4 @@
--- What is found of a layout.
+-- The findings about a layout.
 use Rattle.std.specs.Prelude.{ℕ, List}
 use Rattle.frac_core.specs.Fraction.{Fraction}
 use Rattle.problem_core.specs.Layout.{Problem}
@@ -14,7 +14,7 @@ pub record Findings : Type 0 where
   pub unmet : List (ℕ × Fraction)
   pub moving : List (ℕ × Fraction)
 
--- the findings that a diagnosis tells
+-- the findings of a diagnosis
 abbrev pub findings_of : Diagnosis → Findings
 findings_of d = record { errors = d.errors.items; unmet = d.unmet.items; moving = d.moving.items }
 

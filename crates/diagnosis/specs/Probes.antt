@@ -61,7 +61,7 @@ side false = Le
 abbrev pub with_probe : Layout → ℕ → Fraction → Problem
 with_probe l attr f = with_added l [] (probe_row l attr f ∷ [])
 
--- v and 1, or v less 1, over v's denominator
+-- v + 1, or v - 1, over v's denominator
 abbrev pub next_num : Bool → Fraction → ℤ
 next_num true v = v.num +ℤ pos v.den
 next_num false v = v.num -ℤ pos v.den
@@ -70,7 +70,7 @@ next_num false v = v.num -ℤ pos v.den
 abbrev pub IsBeside : Bool → Fraction → Fraction → Type 0
 IsBeside up v f = f.num *ℤ pos v.den ≡ next_num up v *ℤ pos f.den
 
--- what the second is above the first fits
+-- the second minus the first fits
 abbrev pub IsNearTo : Fraction → Fraction → Type 0
 IsNearTo from to = (more : Fraction) × IsKept more
     × IsRatio more (sum_num to (negsuc 0) (pos 1) from) (sum_den to (pos 1) from)
@@ -130,7 +130,7 @@ IsStopped l attr up budget (Target way) = (way ≡ up)
     × IsUnfitRatio (next_num up (value_of l.values attr)) (pos (value_of l.values attr).den)
 IsStopped l attr up budget OutOfMemory = Unit {0}
 
--- a probe down is made where nothing above is reached
+-- a probe down is made if nothing above is reached
 abbrev pub IsCalledFor : Layout → ℕ → Bool → Type 0
 IsCalledFor l attr up = up ≡ false → GoesAbove l.problem attr (value_of l.values attr) → ⊥
 

@@ -1,4 +1,4 @@
-// All that is found of a layout.
+// All findings about a layout.
 ghost use Rattle.std.specs.Prelude.{◌≡◌, IfOk, IfErr};
 ghost use Rattle.diagnosis.specs.Diagnoses.{AreFindings, findings_of};
 ghost use Rattle.diagnosis.specs.Probes.{CanProbeAll, IsStopAt};
@@ -23,10 +23,10 @@ pub struct Diagnosis {
     pub moving: Vec<(u32, Frac)>,
 }
 
-/// All that a layout lacks and leaves open. The engine is as before.
+/// Finds all that a layout lacks and leaves open. The engine does not change.
 ///
-/// A stop comes with the number of the attribute whose probe stopped, which is 0 where memory is wanting
-/// before the first probe.
+/// A stop has the number of the attribute whose probe stopped. It is 0 if memory ran out before the first
+/// probe.
 pub fn diagnose(alloc: Global, e: &mut Engine, budget: u64) -> Result<Diagnosis, Stopped>
     requires can { CanProbeAll e.old }
     ensures found { IfOk result (λ d. AreFindings e.old.problem e.old.values (findings_of d)) }

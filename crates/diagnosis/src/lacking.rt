@@ -16,7 +16,7 @@ fn is_same(a: Wide, b: Wide) -> bool
     a == b
 }
 
-// Appends a row with its error, where it is not required and this is not 0.
+// Appends a row with its error, if it is not required and the error is not 0.
 fn push_unmet(out: &mut Vec<(u32, Wide)>, e: &Engine, row: &Row) -> Result<(), OutOfMemory>
     requires held { Any (λ r. r ≡ row.now) e.now.problem.rows }
     ensures { IfOk result (λ _. (rows : List layout.Row) → All (λ r. r.id < row.now.id) rows

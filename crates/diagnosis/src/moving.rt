@@ -23,7 +23,7 @@ fn push_answer(out: &mut Vec<(u32, Frac)>, attr: u32, answer: Answer) -> Result<
     }
 }
 
-// Appends the attribute, where it moves, with the value that it reaches.
+// Appends the attribute, if it moves, with the value that it reaches.
 fn push_moving(
     alloc: Global,
     out: &mut Vec<(u32, Frac)>,
@@ -52,7 +52,7 @@ fn push_moving(
     }
 }
 
-// Of these attributes those that move, by number.
+// Those of these attributes that move, by number.
 fn moving_among(
     alloc: Global,
     e: &mut Engine,
@@ -74,9 +74,9 @@ fn moving_among(
 }
 
 /// The attributes that move among the assignments that are best without the stays, by number, each with the
-/// value that it reaches, as [`ambiguous`] answers. The engine is as before.
+/// value that it reaches, as [`ambiguous`] answers. The engine does not change.
 ///
-/// A stop comes with the number of the attribute whose probe stopped. Those of lower numbers were probed.
+/// A stop has the number of the attribute whose probe stopped. Those of lower numbers were probed.
 pub fn all_ambiguous(
     alloc: Global,
     e: &mut Engine,

@@ -18,7 +18,7 @@ fn is_zero(sum: Frac) -> bool
     sum.num() == 0
 }
 
-// Appends the priority below this one with the sum of its weighted errors, where this is not 0.
+// Appends the priority below this one with the sum of its weighted errors, if the sum is not 0.
 fn push_cost(out: &mut Vec<(u16, Frac)>, e: &Engine, above: u16) -> Result<(), OutOfMemory>
     requires some { 0 < above }
     requires most { above ≤ REQUIRED }

@@ -1,4 +1,4 @@
-// Whether an attribute moves among what is best without the stays.
+// Whether an attribute moves among the best assignments without the stays.
 ghost use Rattle.std.specs.Prelude.{◌≡◌, ◌≢◌, ◌<◌, pos, true, false, All};
 ghost use Rattle.std.specs.Prelude.{IfOk, IfErr, IfSome, IfNone};
 ghost use Rattle.frac_core.specs.Fraction.{IsKept, IsUnfitRatio};
@@ -18,12 +18,12 @@ use std::alloc::Global;
 use std::cmp::Ordering;
 use thiserror::Error;
 
-/// What is said of an attribute.
+/// Whether an attribute moves.
 #[derive(Clone, Copy, Debug, PartialEq, Eq)]
 pub enum Answer {
     /// All assignments that are best without the stays give it its value.
     Fixed,
-    /// They reach this value, up to a point from its own.
+    /// They reach this value, at most a point from its own.
     Moves(Frac),
 }
 
@@ -39,7 +39,7 @@ pub enum DiagnoseStop {
     /// The value that the probe would wish does not fit.
     #[error("the value a point away doesn't fit")]
     Target { up: bool },
-    /// Memory is wanting.
+    /// Memory ran out.
     #[error("memory is wanting")]
     OutOfMemory,
 }
@@ -54,7 +54,7 @@ impl From<OutOfMemory> for DiagnoseStop {
     }
 }
 
-/// The attribute whose probe stopped, and why. The number is 0 where memory is wanting beside the probes.
+/// The attribute whose probe stopped, and why. The number is 0 if memory ran out outside the probes.
 #[derive(Clone, Debug, Drop, Error)]
 #[error("the probe of attribute {attr} stopped: {stop}")]
 pub struct Stopped {
@@ -122,7 +122,7 @@ fn wish(alloc: Global, id: u32, attr: u32, rel: Rel, at: Frac) -> Result<Row, Ou
     Row::of(alloc, id, 0, 1, rel, 1, at, &terms)
 }
 
-// Whether the second value less the first fits.
+// Whether the second value minus the first fits.
 fn is_near(from: Frac, to: Frac) -> bool
     ensures { result ≡ true → IsNearTo from to }
 {
@@ -144,16 +144,16 @@ fn is_past(value: Frac, target: Frac, up: bool) -> bool
     value.compare(&target) == past
 }
 
-// How the attribute is to be on the way.
+// The relation of the attribute to the probe's constant.
 fn side_of(up: bool) -> Rel
     ensures { result ≡ side up }
 {
     if up { Rel::Ge } else { Rel::Le }
 }
 
-// The value that the attribute takes on the way to the target, a point above its own or below, where that is
-// found by one change of a constant: a row that asks for no more than a value behind its own joins without
-// cost, and asks for the target then. `None` where something stops that.
+// The value that the attribute takes on the way to the target, a point above its own or below, found by one
+// change of a constant: a row that asks for less than the attribute's own value joins without cost, and then
+// asks for the target. `None` if something stops that.
 fn pushed(
     alloc: Global,
     e: &mut Engine,
@@ -191,7 +191,7 @@ fn pushed(
     Some(value)
 }
 
-// The value that the attribute takes where one is wished at the target.
+// The value that the attribute takes if the target is wished.
 fn drawn(
     alloc: Global,
     e: &mut Engine,
@@ -219,7 +219,7 @@ fn drawn(
     }
 }
 
-// The value that the attribute takes where one is wished a point above its own, or below.
+// The value that the attribute takes if one a point above its own, or below, is wished.
 fn probe(
     alloc: Global,
     e: &mut Engine,
@@ -253,10 +253,10 @@ fn is_same(a: Frac, b: Frac) -> bool
 
 /// Whether an attribute moves among the assignments that are best without the stays, and how far.
 ///
-/// Two probes are made at most, one up and, where nothing above is reached, one down. Each makes up to three
-/// runs, each with the whole budget: a row behind the value joins, its constant changes, and only where that
-/// is no answer a row at the wished value joins instead. A stop is one of this last run, or that there is no
-/// such value; it names the direction of its probe. The engine is as before.
+/// At most two probes are made: one up and, if nothing above is reached, one down. Each makes up to three
+/// runs, each with the whole budget: a row that asks for less than the value joins, its constant changes, and
+/// only if that gives no answer, a row at the wished value joins instead. A stop is one of this last run, or
+/// that there is no such value; it names the direction of its probe. The engine does not change.
 pub fn ambiguous(
     alloc: Global,
     e: &mut Engine,

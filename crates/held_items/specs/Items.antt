@@ -1,4 +1,4 @@
--- What is held, and the rows that it stands for.
+-- Held items and their rows.
 use Rattle.std.specs.Prelude.{◌≡◌, ℕ, zero, suc, ◌+◌, Bool, true, false, cond}
 use Rattle.std.specs.Prelude.{List, [], ◌∷◌, ◌++◌, length, filter}
 use Rattle.std.specs.Prelude.{Option, Some, None, ◌&&◌, nat_eq, codes, pos}
@@ -89,7 +89,7 @@ AreItemRows metrics (OfLine group line) rows = AreRowsNow metrics line.rows rows
 AreItemRows metrics (Suggested s) rows = rows ≡ suggested_row s ∷ []
 AreItemRows metrics (Intrinsic s) rows = rows ≡ intrinsic_rows s
 
--- the rows of some items, one item's after the other's
+-- the rows of some items, in the order of the items
 abbrev pub AreRows : MetricList → List Item → List Row → Type 0
 AreRows metrics [] rows = rows ≡ []
 AreRows metrics (item ∷ more) rows =
@@ -149,11 +149,11 @@ IsFirstPlace is (item ∷ more) (suc place) = (is item ≡ false) × IsFirstPlac
 
 -- ---- the window's size
 
--- it is held
+-- a size is held
 abbrev pub has_size : List Item → Bool
 has_size held = list_any is_size held
 
--- the item with these constants, where it is the window's size
+-- the item with these constants, if it is the window's size
 abbrev pub sized : Fraction → Fraction → Item → Item
 sized width height OfWindow = OfWindow
 sized width height (OfView first_row id) = OfView first_row id
@@ -172,7 +172,7 @@ pub record Size : Type 0 where
   pub width : Fraction
   pub height : Fraction
 
--- the item's size, where it is the window's
+-- the item's size, if it is the window's
 abbrev pub own_size : Item → Option Size
 own_size OfWindow = None
 own_size (OfView first_row id) = None
@@ -182,7 +182,7 @@ own_size (OfLine group line) = None
 own_size (Suggested s) = None
 own_size (Intrinsic s) = None
 
--- the window's size, where one is held
+-- the window's size, if one is held
 abbrev pub size_of : List Item → Option Size
 size_of held = first_of is_size own_size held
 
@@ -210,7 +210,7 @@ is_suggestion view word (OfLine group line) = false
 is_suggestion view word (Suggested s) = nat_eq s.view view && nat_eq (word_number s.word) (word_number word)
 is_suggestion view word (Intrinsic s) = false
 
--- the item's suggestion, where it is one
+-- the item's suggestion, if it is one
 abbrev pub own_suggestion : Item → Option Suggestion
 own_suggestion OfWindow = None
 own_suggestion (OfView first_row id) = None
@@ -219,11 +219,11 @@ own_suggestion (OfLine group line) = None
 own_suggestion (Suggested s) = Some s
 own_suggestion (Intrinsic s) = None
 
--- that suggestion, where one is held
+-- that suggestion, if one is held
 abbrev pub suggestion_of : ℕ → AttrWord → List Item → Option Suggestion
 suggestion_of view word held = first_of (is_suggestion view word) own_suggestion held
 
--- the item with this constant, where it is a suggestion
+-- the item with this constant, if it is a suggestion
 abbrev pub with_constant : Fraction → Item → Item
 with_constant constant OfWindow = OfWindow
 with_constant constant (OfView first_row id) = OfView first_row id
@@ -236,7 +236,7 @@ with_constant constant (Intrinsic s) = Intrinsic s
 abbrev pub suggested_again : ℕ → AttrWord → Fraction → List Item → List Item
 suggested_again view word constant held = replaced (is_suggestion view word) (with_constant constant) held
 
--- the view, a point and the attribute
+-- the view, a dot and the attribute
 abbrev pub suggestion_name : List ℕ → AttrWord → List ℕ
 suggestion_name name attr = name ++ (point ∷ word_text attr)
 
@@ -251,7 +251,7 @@ is_intrinsic view (OfLine group line) = false
 is_intrinsic view (Suggested s) = false
 is_intrinsic view (Intrinsic s) = nat_eq s.view view
 
--- the item's size, where it is one of a view
+-- the item's size, if it is one of a view
 abbrev pub own_intrinsic : Item → Option IntrinsicSize
 own_intrinsic OfWindow = None
 own_intrinsic (OfView first_row id) = None
@@ -260,11 +260,11 @@ own_intrinsic (OfLine group line) = None
 own_intrinsic (Suggested s) = None
 own_intrinsic (Intrinsic s) = Some s
 
--- the size that the view would like, where one is held
+-- the size that the view would like, if one is held
 abbrev pub intrinsic_of : ℕ → List Item → Option IntrinsicSize
 intrinsic_of view held = first_of (is_intrinsic view) own_intrinsic held
 
--- the item with this width and height, where it is the size of a view; ranks and rows are those that it has
+-- the item with this width and height, if it is the size of a view; its ranks and rows stay
 abbrev pub with_size : Fraction → Fraction → Item → Item
 with_size width height OfWindow = OfWindow
 with_size width height (OfView first_row id) = OfView first_row id
@@ -284,6 +284,6 @@ intrinsic_changes s = (record { row = s.first_row; constant = s.width })
     ∷ (record { row = s.first_row + 2; constant = s.height })
     ∷ (record { row = s.first_row + 3; constant = s.height }) ∷ []
 
--- the view, a point and `size`
+-- the view, a dot and `size`
 abbrev pub intrinsic_name : List ℕ → List ℕ
 intrinsic_name name = name ++ codes ".size"

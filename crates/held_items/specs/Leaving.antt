@@ -1,4 +1,4 @@
--- What goes of what is held, with a group, a suggestion, or views: items, and numbers of rows and attributes.
+-- What leaves with a group, a suggestion or views: items, and numbers of rows and attributes.
 use Rattle.std.specs.Prelude.{ℕ, ◌+◌, Bool, false, cond, not, List, [], ◌∷◌, ◌++◌, filter, map, nat_eq}
 use Rattle.std.specs.List.{list_any}
 use Rattle.std.specs.Str.{bytes_eq}
@@ -28,7 +28,7 @@ goes_with gone (OfLine name line) = list_any (λ id. list_any (λ v. nat_eq v id
 goes_with gone (Suggested s) = is_among gone s.view
 goes_with gone (Intrinsic s) = is_among gone s.view
 
--- what stays of what is held
+-- the held items that stay
 abbrev pub staying : (Item → Bool) → List Item → List Item
 staying goes held = filter (λ item. not (goes item)) held
 

@@ -13,11 +13,11 @@ use Rattle.held_items.specs.Items.{size_of}
 
 -- ---- how far constants move
 
--- the second constant less the first fits
+-- the second constant minus the first fits
 abbrev pub FitsAfter : Fraction → Fraction → Type 0
 FitsAfter before after = IsFittingSum (plus after (negated before))
 
--- so it is with the constants of these rows
+-- the same of the constants of these rows
 abbrev pub IsNear : Row → Row → Type 0
 IsNear before after = FitsAfter before.constant after.constant
 
@@ -32,7 +32,7 @@ abbrev pub IsFarSize : List Item → Fraction → Fraction → Type 0
 IsFarSize held width height = (size : Size) × (size_of held ≡ Some size)
     × (FitsAfter size.width width × FitsAfter size.height height → ⊥)
 
--- the constants of the two rows of the window's size, of which the first has this number
+-- the constants of the two rows of the window's size, the first with this number
 abbrev pub size_changes : ℕ → Fraction → Fraction → List Change
 size_changes first_row width height =
     (record { row = first_row; constant = width })
@@ -56,7 +56,7 @@ forms_of (item ∷ more) = forms_in item ++ forms_of more
 
 -- ---- constants beside those that rows have
 
--- the row of this number, where there is one, has the constant
+-- the row of this number, if there is one, has the constant
 abbrev pub IsStill : List Row → RowConstant → Type 0
 IsStill rows c = All (λ r. r.id ≡ c.row → r.constant ≡ c.constant) rows
 

@@ -7,7 +7,7 @@ use crate::item::WindowSize;
 use frac_core::Frac;
 use layout_solver::Change;
 
-/// Whether the second constant less the first fits.
+/// Whether the second constant minus the first fits.
 pub fn fits_after(from: Frac, to: Frac) -> bool
     ensures yes { result ≡ true → FitsAfter from to }
     ensures no { result ≡ false → FitsAfter from to → ⊥ }
@@ -18,7 +18,7 @@ pub fn fits_after(from: Frac, to: Frac) -> bool
     }
 }
 
-/// Whether the second size less the first fits.
+/// Whether the second size minus the first fits.
 pub fn is_near_size(from: &WindowSize, to: &WindowSize) -> bool
     ensures yes { result ≡ true
         → FitsAfter from.now.width to.now.width × FitsAfter from.now.height to.now.height }
@@ -28,7 +28,7 @@ pub fn is_near_size(from: &WindowSize, to: &WindowSize) -> bool
     fits_after(from.width, to.width) && fits_after(from.height, to.height)
 }
 
-/// The constants of the two rows of the window's size, of which the first has this number.
+/// The constants of the two rows of the window's size. The first has this number.
 pub fn size_changes(first_row: u32, size: &WindowSize) -> [Change; 2]
     requires { first_row < NUMBER_LIMIT }
     ensures { result ≡ size_changes first_row size.now.width size.now.height }

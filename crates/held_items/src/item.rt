@@ -1,4 +1,4 @@
-// What is held, apart from its rows.
+// The held items, apart from their rows.
 pub(crate) mod coming;
 pub(crate) mod finding;
 pub(crate) mod intrinsic;
@@ -19,7 +19,7 @@ use constraint_compile::{Compiled, Suggestion};
 use frac_core::Frac;
 use name_tables::OwnedName;
 
-/// What a session holds rows for. A view is named by its number, the window's being 0.
+/// What a session holds rows for. A view is named by its number; the window's is 0.
 #[derive(Drop)]
 pub enum Item {
     /// The window: its left and top are 0, its width and height at least 0.
@@ -40,7 +40,7 @@ pub enum Item {
         group: OwnedName,
         line: Compiled,
     },
-    /// That an attribute of a view has a value.
+    /// A suggestion: an attribute of a view has a value.
     Suggested(Suggestion),
     /// The size that a view would like to have.
     Intrinsic(IntrinsicSize),
@@ -53,7 +53,7 @@ pub struct WindowSize {
     pub height: Frac,
 }
 
-/// The window's size as it is held, with the number of the first of its two rows.
+/// The held size of the window, with the number of the first of its two rows.
 #[derive(Clone, Copy)]
 pub struct HeldSize {
     pub first_row: u32,
@@ -86,7 +86,7 @@ pub fn line_count(items: &[Item]) -> usize
     count
 }
 
-/// The window's size, where the item is it.
+/// The window's size, if the item is it.
 pub(crate) fn own_size(item: &Item) -> Option<HeldSize>
     ensures some { IfSome result (λ s. own_size (item_of item.now) ≡ Some (size_in s)) }
     ensures none { IfNone result (own_size (item_of item.now) ≡ None) }

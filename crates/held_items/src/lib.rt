@@ -1,8 +1,8 @@
-//! What a session holds, and the rows that this stands for.
+//! What a session holds, and its rows.
 //!
 //! An [`Item`] is the window, a view, the window's size, a line of a group, a suggestion, or the size that a
-//! view would like. The items stand in order of acceptance in a list with earlier versions
-//! ([`VersionList`](version_lists::VersionList)); the numbers of their rows rise in that order.
+//! view would like. The items are in order of acceptance in a list with earlier versions
+//! ([`VersionList`](version_lists::VersionList)). The numbers of their rows rise in that order.
 //!
 //! ```
 //! push_views(&mut items, 5, 1, 1)?;             // the first view, ViewId(1), whose rows are 5 and 6
@@ -14,16 +14,16 @@
 //! ```
 //!
 //! A contract sees an item without its code (`item_of`): what it keeps (`IsItem`), its rows at given metrics
-//! (`AreItemRows`, `AreRows`), and its numbers (`item_numbers`). No function here sees a scene, an engine or
-//! a reply: those who keep a scene have the items change with the engine's rows.
+//! (`AreItemRows`, `AreRows`), and its numbers (`item_numbers`). No function here knows a scene, an engine or
+//! a reply: whoever keeps a scene changes the items together with the engine's rows.
 //!
-//! What always holds: after want of memory the items are as before; after a change those of before are the
-//! newest earlier version; and what changes the constants of rows says so of each row whose constant changes.
+//! What always holds: if memory runs out, the items don't change; after a change, the items before are the
+//! newest earlier version; and a change of constants names each row whose constant changes.
 //!
 //! In reading order: `limits`, `row_numbers`, `changes` (how far a constant moves); `item` is what is held,
 //! with `rows` (its rows), `suggesting` and `intrinsic` (suggestions, and sizes of views), `new_item` (a new
-//! item with its rows), `finding` (what there is one of at most), and with what a change does to it:
-//! `placing` (one item more, another one, or one less), `coming` (views), `leaving`, `moving` (metrics) and
+//! item with its rows), `finding` (items of which there is at most one), and with what a change does to it:
+//! `placing` (adds, replaces or removes an item), `coming` (views), `leaving`, `moving` (metrics) and
 //! `renewing` (other constants).
 #![tactic(auto)]
 

@@ -1,4 +1,4 @@
-// How many rows what is held may stand for, and how many versions of it are kept.
+// How many rows a session may hold, and how many earlier versions it keeps.
 ghost use Rattle.held_items.specs.Constants.{ConstantsAreAsSaid};
 
 use version_lists::VERSION_LIMIT;
@@ -7,7 +7,7 @@ use version_lists::VERSION_LIMIT;
 pub const MOST_ROWS: usize = 2_000;
 
 /// How many earlier scenes are kept. A list of versions keeps one more: the scene before a command that is
-/// still tried.
+/// still being tried.
 pub const EARLIER: usize = VERSION_LIMIT - 1;
 
 /// The constants that definitions and clauses cite by name are these numbers.

@@ -1,4 +1,4 @@
-// How many rows a view and the window's size take, and which numbers the window's rows have.
+// How many rows a view and the window's size take, and the numbers of the window's rows.
 
 /// How many rows a view takes: one of its width, one of its height.
 pub const VIEW_ROWS: u32 = 2;
@@ -6,7 +6,7 @@ pub const VIEW_ROWS: u32 = 2;
 /// How many rows the window's size takes.
 pub const SIZE_ROWS: u32 = 2;
 
-/// How many rows the size takes that a view would like.
+/// How many rows a view's size takes.
 pub const INTRINSIC_ROWS: u32 = 4;
 
 /// The number of the row by which the window's left is 0.
@@ -21,5 +21,5 @@ pub const WIDTH_ROW: u32 = 3;
 /// The number of the row by which its height is at least 0.
 pub const HEIGHT_ROW: u32 = 4;
 
-/// The number of the first row behind the window's.
+/// The number of the first row after the window's.
 pub const FIRST_FREE_ROW: u32 = 5;

@@ -25,8 +25,8 @@ pub record Start : Type 0 where
   pub joining : List Row
   pub kept : List Mark
 
--- where a path to the problem may begin while these rows are still to join: at the corner that was kept where
--- constants change, else with the mark of each row that joins
+-- where a path to the problem may begin while these rows are still to join: at the corner that was kept if
+-- constants change, otherwise with the mark of each row that joins
 abbrev pub FromStart : Bool → List Mark → List Row → Problem → List Row → List Mark → Type 0
 FromStart true kept joining p = FromHere kept
 FromStart false kept joining p = FromAdded p kept joining

@@ -1,4 +1,4 @@
--- What an engine is made of.
+-- The parts of an engine.
 use Rattle.std.specs.Prelude.{◌≡◌, ◌<◌, ℕ, List, [], ◌∷◌, length, map, take, All}
 use Rattle.frac_core.specs.Fraction.{Fraction, IsLowest}
 use Rattle.problem_core.specs.Corners.{IsCorner}
@@ -41,7 +41,7 @@ layout_of c values earlier = record {
   earlier = solutions_at c.before earlier;
 }
 
--- kept solutions, of which that of now is at a corner at which no line is listed
+-- kept solutions; the present one is at a corner without a listed line
 pub record IsSolved (c : CornerView) (values : List (ℕ × Fraction)) (before : HaveValues c.before)
     : Type 0 where
   pub kept : IsKeptSolution (solution_at (scene_of c) values)
@@ -59,7 +59,7 @@ pub record IsMarked (c mid : CornerView) (v : List (ℕ × Fraction)) (past : Ha
   pub before : mid.before ≡ take VERSION_LIMIT (scene_of c ∷ c.before)
   pub room : length l.earlier < VERSION_LIMIT
 
--- the corner has just been marked, where the layout was this one
+-- the corner, whose layout was this one, has just been marked
 pub record IsMarkedAs (mid : CornerView) (l : Layout) : Type 0 where
   pub from : CornerView
   pub values : List (ℕ × Fraction)

@@ -1,4 +1,4 @@
--- What can leave, and where a removal has a stop: the row `x >= k` where x stands at k, and a row `x >= 0`.
+-- What can leave, and when a removal stops: the row `x >= k` with x at k, and a row `x >= 0`.
 use Rattle.std.specs.Prelude.{◌≡◌, ℕ, List, [], ◌∷◌, ◌++◌, pos, false}
 use Rattle.std.specs.Global.{Vec}
 use Rattle.frac_core.specs.declared.frac.TheConstants.{PART_BOUND}
@@ -59,7 +59,7 @@ pub record SomeRemovalsStop : Type 0 where
   pub freed_fits : (still : List ℕ) → IsHeldPath (standing 5) (over_stay ∷ []) (1 ∷ []) still x_over → ⊥
   pub held : IsHeldPath (with_second (standing PART_BOUND)) both_over (2 ∷ 1 ∷ []) (1 ∷ []) x_over
   pub fits : (still : List ℕ) → IsHeldPath (with_second (standing 5)) both_over (2 ∷ 1 ∷ []) still x_over → ⊥
-  -- a row that does not leave, or leaves first, is not told as still held
+  -- a row that does not leave, or leaves first, is not named as still held
   pub not_leaving : (p : Problem) (kept : List Mark) (at : UnfitPath)
       → IsHeldPath p kept (2 ∷ 1 ∷ []) (3 ∷ []) at → ⊥
   pub out_of_order : (p : Problem) (kept : List Mark) (at : UnfitPath)

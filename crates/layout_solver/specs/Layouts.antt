@@ -16,20 +16,20 @@ pub record AreBest (problem : Problem) (values : List (ℕ × Fraction)) : Type 
   pub lowest : All (λ v. IsLowest v.1) values
   pub best : (x : Assignment) × IsBest problem x × Gives values x
 
--- a problem, its best values, and the marks inside at the corner where they stand
+-- a problem, its best values, and the marks inside at their corner
 pub record Solution : Type 0 where
   pub problem : Problem
   pub values : List (ℕ × Fraction)
   pub corner : List Mark
 
--- the solution of now, and the earlier ones that one can go back to, the latest first
+-- the present solution, and the earlier ones to go back to, the latest first
 pub record Layout : Type 0 where
   pub problem : Problem
   pub values : List (ℕ × Fraction)
   pub corner : List Mark
   pub earlier : List Solution
 
--- the solution of now
+-- the present solution
 abbrev pub solution_of : Layout → Solution
 solution_of l = record { problem = l.problem; values = l.values; corner = l.corner }
 
@@ -51,7 +51,7 @@ pub record IsKeptSolution (s : Solution) : Type 0 where
   pub values : AreValuesAt s.problem s.corner s.values
   pub end : IsBestEnd s.problem s.corner
 
--- the solution of now keeps this; of the earlier ones nothing is said
+-- the present solution keeps this; the earlier ones need not
 abbrev pub IsKeptLayout : Layout → Type 0
 IsKeptLayout l = IsKeptSolution (solution_of l)
 

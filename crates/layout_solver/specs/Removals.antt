@@ -79,7 +79,7 @@ abbrev pub IsLeftStop : Problem → List Mark → Leaving → ℕ → RunStop �
 IsLeftStop p kept l budget stop = IsStopOf false (without l p) (without l p).rows
     (FromRemoved p kept l.rows l.rows (without l p)) budget stop
 
--- why they cannot leave the problem at the marks that were kept: never a conflict. Where no row is told as
+-- why they cannot leave the problem at the marks that were kept: never a conflict. If no row is named as
 -- still held, the attributes have left too
 abbrev pub IsRemoveStop : Problem → List Mark → Leaving → ℕ → RequestStop → Type 0
 IsRemoveStop p kept l budget (Conflict by) = ⊥
@@ -118,7 +118,7 @@ abbrev pub AfterGone : List ℕ → ℕ → CornerView → (Problem → List Mar
 AfterGone rows gone c holds = (p : Problem) (kept : List Mark) → IsKeptCorner p kept
     → AllPairs (λ a b. a ≢ b) rows → HaveGone p kept (take gone rows) (take gone rows) c → holds p kept
 
--- the same where a mark of the next row was brought in too
+-- the same, and a mark of the next row was brought in too
 abbrev pub AfterFreed : List ℕ → ℕ → CornerView → (Problem → List Mark → Type 0) → Type 0
 AfterFreed rows gone c holds = (p : Problem) (kept : List Mark)
     → HaveGone p kept (take (gone + 1) rows) (take gone rows) c → holds p kept

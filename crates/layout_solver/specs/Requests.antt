@@ -1,4 +1,4 @@
--- What an engine is asked to solve, what comes of that, and why it stops.
+-- Requests to an engine, their outcomes, and why they stop.
 use Rattle.std.specs.Prelude.{◌≡◌, ◌≢◌, ◌<◌, ℕ, true, false, List, [], All, AllPairs}
 use Rattle.problem_core.specs.Kept.{IsWhole}
 use Rattle.problem_core.specs.Layout.{HasStay, Problem}
@@ -73,8 +73,8 @@ still_of (Unfit still at) = still.items
 still_of (Spent path) = []
 still_of OutOfMemory = []
 
--- Why the request has no solution within the budget, or none was found: after `Remove` and `Keep` there is no
--- conflict, and `Stand` fails for want of memory alone.
+-- Why the request has no solution within the budget, or none was found: `Remove` and `Keep` have no conflict,
+-- and `Stand` stops only if memory runs out.
 abbrev pub IsRequestStop : Layout → Request → ℕ → RequestStop → Type 0
 IsRequestStop l (Add attrs rows) budget stop = (still_of stop ≡ [])
     × IsStopOf false (with_added l attrs.items rows.items) l.problem.rows

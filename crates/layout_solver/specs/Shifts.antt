@@ -44,7 +44,7 @@ abbrev pub IsAtMark : CornerView → Type 0
 IsAtMark c = (newest : Scene) × (rest : List Scene) × (c.before ≡ newest ∷ rest)
     × (c.marks ≡ newest.marks)
 
--- where this does not fit at these marks once so many constants have changed, a dual run from them stops so
+-- how a dual run from these marks stops if this does not fit there after so many constants changed
 abbrev pub IsShiftsStop : List Mark → Quantity → ℕ → RunStop → Type 0
 IsShiftsStop at quantity changed stop = (p : Problem) (old : List Row) (what : What) → quantity ≡ Plain what
     → IsPath true p at [] → IsUnfit p old at (Shifts what changed)

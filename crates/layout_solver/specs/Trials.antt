@@ -30,9 +30,9 @@ IsChangeStop p at to budget (Changing quantity) =
 IsChangeStop p at to budget (Running stop) =
     IsDualStop (with_constant to.row to.constant p) at budget stop
 
--- These rows join the marks that were kept, where those are the rows before, and a constant changes then,
--- which stops so: the rows don't join; or a lawful path within the budget leads to a best corner with them,
--- where the change stops.
+-- These rows join the marks that were kept, with the rows before, and then a constant changes. It stops so:
+-- the rows don't join; or a valid path within the budget leads to a best corner with them, and the change
+-- stops there.
 abbrev pub IsTrialStop : Problem → (old : List Row) (kept : List Mark) (rows : List Row) → Change → ℕ
     → TrialStop → Type 0
 IsTrialStop p old kept rows to budget (Joining stop) =
@@ -59,8 +59,8 @@ abbrev pub IsEachStop : List Stay → List Row → ℕ → RunStop → Type 0
 IsEachStop stays rows budget stop = (i : ℕ) × (kept : List Mark) × (i < length rows)
     × AreLed stays rows budget i kept × IsJoinStop stays rows budget i kept stop
 
--- The rows are led in one after another, and that stops so: for want of memory, where one of them joins, or
--- on the way to the best corner from where all of them led.
+-- The rows join one after another, and that stops so: memory runs out, one of them doesn't join, or the run
+-- to the best corner after all of them stops.
 abbrev pub IsLeadStop : List Stay → List Row → ℕ → RunStop → Type 0
 IsLeadStop stays rows budget stop = (stop ≡ OutOfMemory) ⊎ IsEachStop stays rows budget stop
     ⊎ ((kept : List Mark) × AreLed stays rows budget (length rows) kept

@@ -1,4 +1,4 @@
-// The way of a corner to the best one of a problem with more attributes and rows.
+// From a corner to the best one of a problem with more attributes and rows.
 ghost use Rattle.std.specs.Prelude.{◌≡◌, ◌<◌, ◌++◌, length, false, IfOk, IfErr};
 ghost use Rattle.problem_core.specs.Layout as layout;
 ghost use Rattle.problem_core.specs.Kept.{IsWhole};

@@ -1,4 +1,4 @@
-// The engine: a problem with its best values and the corner where they stand, and earlier ones to go back to.
+// The engine: a problem with its best values and their corner, and earlier ones to go back to.
 mod moved;
 
 ghost use Rattle.std.specs.Prelude.{◌≡◌, ◌<◌, ◌-◌, ℕ, [], ◌∷◌, false, length, take};
@@ -45,7 +45,7 @@ pub struct Change {
     pub constant: Frac,
 }
 
-/// A problem with its best values, and the corner at which they stand, with earlier ones.
+/// A problem with its best values and their corner, and earlier ones.
 #[derive(Drop)]
 pub struct Engine {
     corner: Corner,
@@ -66,7 +66,7 @@ impl Model for Engine {
 }
 
 impl Engine {
-    /// The engine of no attribute and no row.
+    /// An engine without attributes and rows.
     pub fn new(alloc: Global) -> Result<Engine, OutOfMemory>
         ensures { IfOk result (λ e. e ≡ record {
           problem = record { rows = []; stays = [] };
@@ -93,14 +93,14 @@ impl Engine {
     }
 
     /// Solves a request: moves the stays to the present values, changes what the request says, and goes on to
-    /// the best values. The path begins at the corner that was kept; for `Add` with the mark of each new row
-    /// that is not negative, for `Remove` after exchanges that bring a mark of each leaving row in, and
-    /// without these marks. `Keep` moves no value, and `Stand` needs no path.
+    /// the best values. The path begins at the corner that was kept. For `Add`, each new row adds its mark
+    /// that is not negative. For `Remove`, exchanges first bring a mark of each leaving row in, and these
+    /// marks go. `Keep` moves no value, and `Stand` needs no path.
     ///
-    /// `Conflict` (of `Add` and `Shift` alone): the required rows have no solution, as the multipliers show.
-    /// `Unfit`: a quantity does not fit at the last corner of the path, or, of `Remove`, while the rows in
-    /// `still` are held. `Spent`: the path has as many exchanges as the budget. After each stop the engine is
-    /// as before.
+    /// `Conflict` (only from `Add` and `Shift`): the required rows have no solution, as the multipliers show.
+    /// `Unfit`: a quantity does not fit at the last corner of the path, or, from `Remove`, while the rows in
+    /// `still` are held. `Spent`: the path has as many exchanges as the budget. A stop leaves the engine as
+    /// it was.
     pub fn solve(&mut self, request: &Request, budget: u64) -> Result<(), RequestStop>
         requires room { length self.old.earlier < VERSION_LIMIT }
         requires can { CanSolve self.old request.now }
@@ -137,9 +137,9 @@ impl Engine {
         as_held(self.alloc, self)
     }
 
-    /// The value that an attribute would have if rows joined. The engine is as before.
+    /// The value that an attribute would have if rows joined. The engine does not change.
     ///
-    /// The stops are those of `solve`, where the rows are added.
+    /// The stops are those of `solve` for adding the rows.
     pub fn value_with(&mut self, rows: &[Row], attr: u32, budget: u64) -> Result<Frac, RunStop>
         requires room { length self.old.earlier < VERSION_LIMIT }
         requires whole { IsWhole (with_added self.old [] rows.now) }
@@ -156,11 +156,10 @@ impl Engine {
     }
 
     /// The value that the attribute would have if rows joined and one row had another constant, with the
-    /// stays at the present values. The rows join first, and the constant changes then: where the rows join
-    /// without cost, this is one dual run. Each of the two runs has the whole budget. The engine is as
-    /// before.
+    /// stays at the present values. The rows join first, then the constant changes. If the rows join without
+    /// cost, this is one dual run. Each of the two runs has the whole budget. The engine does not change.
     ///
-    /// A stop says what ends this way. Where one comes, `value_with` may go another way to the same end.
+    /// A stop says what ends this path. `value_with` may reach the same end by another path.
     pub fn value_after(
         &mut self,
         rows: &[Row],
@@ -227,7 +226,7 @@ impl Engine {
         }
     }
 
-    /// The value of an attribute, which has a stay.
+    /// The value of an attribute that has a stay.
     pub fn value_at(&self, attr: u32) -> Frac
         requires { HasStay self.now.problem.stays attr }
         ensures { Any (λ v. (v.0 ≡ attr) × (v.1 ≡ result)) self.now.values }
@@ -237,9 +236,9 @@ impl Engine {
         value
     }
 
-    /// The multipliers that show the values to be best: those of the corner's levels, strongest first, each
-    /// level divided by the factor that its scale and multipliers share. A level whose multipliers are all 0
-    /// is left out. The checker says yes to them, or that it has no room for some row's values.
+    /// The multipliers that show the values to be best: those of the corner's levels, strongest first. Each
+    /// level is divided by the common factor of its scale and multipliers. A level whose multipliers are all
+    /// 0 is left out. The checker accepts them, or has no room for some row's values.
     pub fn certificate(&self) -> Result<Best, OutOfMemory>
         ensures own { IfOk result (IsOwnBest self.now.problem self.now.corner) }
         ensures certified { IfOk result (IsCertified self.now.problem self.now.values) }
@@ -258,7 +257,7 @@ impl Engine {
         Some(error(&self.corner, held))
     }
 
-    /// The sum of the weighted errors at a level, 0 where the problem has no such level.
+    /// The sum of the weighted errors at a level, 0 if the problem has no such level.
     pub fn cost(&self, level: Level) -> Frac
         ensures value { (k : ℕ) → IsLevelAt self.now.problem level k
             → EachGiven self.now.values (λ x. IsLevelCost self.now.problem x k result) }

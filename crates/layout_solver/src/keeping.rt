@@ -1,4 +1,4 @@
-// The way of a corner to the best one of a problem whose stays are in another order.
+// From a corner to the best one of a problem whose stays are in another order.
 ghost use Rattle.std.specs.Prelude.{◌≡◌, ◌≢◌, ◌<◌, [], length, false, All, AllPairs, IfOk, IfErr};
 ghost use Rattle.problem_core.specs.Layout as layout;
 ghost use Rattle.problem_core.specs.Layout.{HasStay, Satisfies};

@@ -1,25 +1,23 @@
 //! The engine: a layout problem and its best values, changed step by step, and back.
 //!
-//! An [`Engine`] is a problem, its best values, and the corner at which these stand, with earlier ones.
-//! [`Engine::solve`] takes a [`Request`]: `Add` brings attributes and rows, `Remove` takes some out, `Shift`
-//! gives rows other constants, `Keep` puts some stays before all others (it moves no value, and from then on
-//! the attributes of these stays are moved last), and `Stand` changes nothing else. Each request first moves
-//! the stays to the present values, so that the attributes stay where they are as far as the rows let them.
-//! Then marks are exchanged until the values are best: after `Shift` no column is negative on the way, else
-//! no value is. A request that stops leaves the engine as it was. [`Engine::posed`] tells the problem that
-//! would be solved.
+//! An [`Engine`] is a problem, its best values and their corner, with earlier ones. [`Engine::solve`] takes a
+//! [`Request`]: `Add` adds attributes and rows, `Remove` takes some out, `Shift` gives rows other constants,
+//! `Keep` puts some stays before all others (it moves no value, and later changes move their attributes
+//! last), and `Stand` changes nothing else. Each request first moves the stays to the present values, so the
+//! attributes stay where they are as far as the rows allow. Then marks are exchanged until the values are
+//! best. After `Shift` no column is negative on the way, otherwise no value is. A request that stops leaves
+//! the engine as it was. [`Engine::posed`] returns the problem that would be solved.
 //!
-//! A request that is solved leaves the layout before it among the earlier ones, of which there may be 33.
-//! [`Engine::back`] goes back to the latest of these, with no memory and no way to fail, and
-//! [`Engine::forget`] drops the oldest.
+//! A solved request makes the layout before it an earlier one. There may be 33 of these. [`Engine::back`]
+//! goes back to the latest, needs no memory and cannot fail. [`Engine::forget`] drops the oldest.
 //!
 //! A contract sees a `Layout`: the problem, the values by attribute, and the marks inside, with the same of
 //! each earlier one. The values are not stored. A corner fixes them ([`Engine::value`] reads them there), and
 //! ghost fields name them.
 //!
-//! What an [`Engine`] keeps ([`Engine::show_layout`]): the problem is whole; the values are its best ones, in
-//! lowest terms and in the order of the stays; they stand at the corner, where no value and no column is
-//! negative and the required rows cost nothing. So it is with each earlier one.
+//! Invariant of an [`Engine`] ([`Engine::show_layout`]): the problem is whole; the values are its best ones,
+//! in lowest terms and in the order of the stays; they are those of the corner, at which no value and no
+//! column is negative and the required rows cost nothing. The same holds of each earlier layout.
 //!
 //! | Clause | Says |
 //! |---|---|
@@ -48,16 +46,15 @@
 //! engine.value(1);                                     // 20
 //! ```
 //!
-//! Linear programming's words: the values at a corner are a basic solution, the marks inside it are the
+//! In linear programming's words, the values at a corner are a basic solution, the marks inside it are the
 //! basis, and an exchange of marks is a pivot. `Add` and `Remove` go on by the primal simplex method from a
 //! feasible basis, `Shift` by the dual one from a basis that is dual feasible.
 //!
-//! To read: `request` (what is asked, and what stops it), `reading` (finds rows and stays). `changing`,
-//! `removing`, `shifting` and `keeping` have the ways of a corner to the best one of another problem, with
-//! more rows, with fewer, with other constants, or with another order of stays; `solving` takes the way of a
-//! request, and `posing` makes its problem without going there. `trying` goes such a way for what an
-//! attribute would be, and `starting` one from nothing. `engine` is what callers use. `laws` has small
-//! problems where a removal stops, and what is no such stop.
+//! In reading order: `request` (requests and their stops), `reading` (lookups in rows and stays). `changing`,
+//! `removing`, `shifting` and `keeping` lead a corner to the best one of another problem: with more rows,
+//! with fewer, with other constants, or with another order of stays. `solving` does so for a request, and
+//! `posing` only makes its problem. `trying` does so for a value that an attribute would have, and `starting`
+//! from nothing. `engine` is what callers use. `laws` has small problems in which a removal stops.
 #![tactic(auto)]
 
 mod changing;

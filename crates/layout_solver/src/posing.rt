@@ -1,4 +1,4 @@
-// The problems of requests, which no engine has taken.
+// The problems of requests, made without solving them.
 ghost use Rattle.std.specs.Prelude.{◌≡◌, ◌≢◌, ◌++◌, ◌∷◌, [], All, AllPairs, IfOk};
 ghost use Rattle.problem_core.specs.Layout.{HasStay};
 ghost use Rattle.problem_core.specs.Kept.{IsRow, IsWhole};
@@ -45,7 +45,7 @@ fn push_zeros(stays: &mut Vec<Stay>, attrs: &[u32]) -> Result<(), OutOfMemory>
     Ok(())
 }
 
-// The constant of the row after the change, before which it is this one.
+// The constant of the row after the change, if it is this one before.
 fn constant_past(row: &Row, change: &Change, constant: Frac) -> Frac
     ensures own { change.now.row ≡ row.now.id → result ≡ change.now.constant }
     ensures other { (change.now.row ≡ row.now.id → ⊥) → result ≡ constant }
@@ -57,7 +57,7 @@ fn constant_past(row: &Row, change: &Change, constant: Frac) -> Frac
     }
 }
 
-// The constant that the changes leave the row.
+// The row's constant after the changes.
 fn constant_after(row: &Row, to: &[Change]) -> Frac
     ensures { shifted to.now (row.now ∷ []) ≡ at_constant result row.now ∷ [] }
 {
@@ -90,7 +90,7 @@ fn rows_after(alloc: Global, rows: &[Row], to: &[Change]) -> Result<Vec<Row>, Ou
     Ok(after)
 }
 
-// Puts a copy of the row behind the others, if it has none of these numbers.
+// Appends a copy of the row, if it has none of these numbers.
 fn push_left(left: &mut Vec<Row>, row: &Row, gone: &[u32]) -> Result<(), OutOfMemory>
     ensures { IfOk result (λ _. left.new.items ≡ left.old.items ++ other_rows gone.now (row.now ∷ [])) }
 {
@@ -111,7 +111,7 @@ fn left_rows(alloc: Global, rows: &[Row], gone: &[u32]) -> Result<Vec<Row>, OutO
     Ok(left)
 }
 
-// The stays of other attributes than these.
+// The stays of all attributes except these.
 fn left_stays(alloc: Global, stays: &[Stay], gone: &[u32]) -> Result<Vec<Stay>, OutOfMemory>
     ensures { IfOk result (λ left. left.items ≡ other_stays gone.now stays.now) }
 {

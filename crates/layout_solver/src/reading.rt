@@ -1,4 +1,4 @@
-// What is read of rows and stays.
+// Lookups in rows and stays.
 ghost use Rattle.std.specs.Prelude.{◌≡◌, ℕ, true, false, Any, IfSome, IfNone};
 ghost use Rattle.problem_core.specs.Layout.{HasStay, Problem};
 ghost use Rattle.problem_core.specs.Levels.{IsLevelAt};

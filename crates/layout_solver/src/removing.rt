@@ -1,4 +1,4 @@
-// The way of a corner to the best one of a problem with fewer rows and attributes.
+// From a corner to the best one of a problem with fewer rows and attributes.
 ghost use Rattle.std.specs.Prelude.{◌≡◌, ◌≢◌, ◌<◌, ◌+◌, ◌++◌, ℕ, List, [], ◌∷◌, take, length, false, get_or};
 ghost use Rattle.std.specs.Prelude.{All, AllPairs, Any, Contains, IfOk, IfErr};
 ghost use Rattle.problem_core.specs.Layout as layout;
@@ -32,7 +32,7 @@ fn held_stop(alloc: Global, still: &[u32], at: UnfitPath) -> RequestStop
     }
 }
 
-// Puts the mark behind the others, if it is none of a row's.
+// Appends the mark, unless it is one of the row's.
 fn push_other(out: &mut Vec<Mark>, mark: Mark, id: u32) -> Result<(), OutOfMemory>
     ensures { IfOk result
         (λ _. out.new.items ≡ out.old.items ++ without_marks (id ∷ []) (mark ∷ [])) }
@@ -43,7 +43,7 @@ fn push_other(out: &mut Vec<Mark>, mark: Mark, id: u32) -> Result<(), OutOfMemor
     Ok(())
 }
 
-// The marks inside but that of a row.
+// The marks inside, except those of a row.
 fn marks_without(alloc: Global, c: &Corner, id: u32) -> Result<Vec<Mark>, OutOfMemory>
     ensures { IfOk result (λ marks. marks.items ≡ without_marks (id ∷ []) c.now.marks) }
 {
@@ -66,7 +66,7 @@ fn path_without(alloc: Global, c: &Corner, id: u32) -> Result<Path, OutOfMemory>
     Path::of(alloc, false, &marks_without(alloc, c, id)?, &[])
 }
 
-// Brings a mark of the next leaving row in.
+// Brings a mark of the next leaving row into the basis.
 fn free_next(alloc: Global, c: &mut Corner, rows: &[u32], gone: usize) -> Result<(), RequestStop>
     requires marked { 0 < length c.old.before }
     requires within { gone < length rows.now }
@@ -88,7 +88,7 @@ fn free_next(alloc: Global, c: &mut Corner, rows: &[u32], gone: usize) -> Result
     }
 }
 
-// Takes the next leaving row out, of which a mark is inside.
+// Takes the next leaving row out, which has a mark inside.
 fn drop_next(alloc: Global, c: &mut Corner, rows: &[u32], gone: usize) -> Result<(), RequestStop>
     requires marked { 0 < length c.old.before }
     requires within { gone < length rows.now }
@@ -146,7 +146,7 @@ fn drop_rows(alloc: Global, c: &mut Corner, rows: &[u32]) -> Result<(), RequestS
     Ok(())
 }
 
-// Takes attributes out that no row names.
+// Takes out attributes that no row names.
 fn drop_attrs(c: &mut Corner, attrs: &[u32]) -> Result<(), OutOfMemory>
     requires marked { 0 < length c.old.before }
     requires held { All (HasStay c.old.problem.stays) attrs.now }
@@ -162,7 +162,7 @@ fn drop_attrs(c: &mut Corner, attrs: &[u32]) -> Result<(), OutOfMemory>
     Ok(())
 }
 
-// Goes on to the best corner, where the required rows have a solution.
+// Goes on to the best corner. The required rows have a solution.
 fn settle_left(alloc: Global, c: &mut Corner, budget: u64) -> Result<(), RequestStop>
     requires marked { 0 < length c.old.before }
     requires values { NoNegativeValue c.old.problem c.old.marks }
@@ -209,8 +209,7 @@ fn leave_attrs(alloc: Global, c: &mut Corner, attrs: &[u32], budget: u64) -> Res
     settle_left(alloc, c, budget)
 }
 
-// Takes rows and attributes out where the stays stand at the present values, and goes on to the best
-// corner.
+// Takes rows and attributes out, and goes on to the best corner. The stays are at the present values.
 fn take_out(
     alloc: Global,
     c: &mut Corner,

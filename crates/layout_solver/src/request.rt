@@ -1,4 +1,4 @@
-// What an engine is asked to solve, and what stops it.
+// Requests to an engine, and why they stop.
 ghost use Rattle.std.specs.Prelude.{◌≡◌, []};
 ghost use Rattle.layout_solver.specs.Requests.{run_of, still_of};
 
@@ -9,14 +9,14 @@ use problem_core::Row;
 use std::alloc::Global;
 use thiserror::Error;
 
-/// What an engine is asked to solve. Each request first moves the stays to the present values.
+/// A request to an engine. Each request first moves the stays to the present values.
 #[derive(Drop)]
 pub enum Request {
     /// Attributes, at 0, and rows join.
     Add { attrs: Vec<u32>, rows: Vec<Row> },
     /// Rows get other constants, by rising row number.
     Shift(Vec<Change>),
-    /// Rows leave in this order, and attributes.
+    /// Rows leave in this order, and then attributes.
     Remove { rows: Vec<u32>, attrs: Vec<u32> },
     /// The stays of these attributes come first.
     Keep(Vec<u32>),
@@ -36,7 +36,7 @@ pub enum RequestStop {
     /// The path has as many exchanges as the budget.
     #[error("the exchanges are used up")]
     Spent(Path),
-    /// Memory is wanting.
+    /// Memory ran out.
     #[error("memory is wanting")]
     OutOfMemory,
 }

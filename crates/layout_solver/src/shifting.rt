@@ -1,4 +1,4 @@
-// The way of a corner to the best one of a problem with other constants.
+// From a corner to the best one of a problem with other constants.
 ghost use Rattle.std.specs.Prelude.{◌≡◌, ◌<◌, ℕ, [], length, true, All, AllPairs, Any, IfOk, IfErr};
 ghost use Rattle.problem_core.specs.Layout as layout;
 ghost use Rattle.problem_core.specs.Corners.{NoNegativeColumn, NoNegativeValue};
@@ -31,14 +31,14 @@ fn constant_of(rows: &[Row], id: u32) -> Frac
     rows[at].constant()
 }
 
-// The path of no exchange at the corner.
+// The path without an exchange at the corner.
 fn path_here(alloc: Global, c: &Corner) -> Result<Path, OutOfMemory>
     ensures { IfOk result (λ path. path ≡ record { dual = true; corner = c.now.marks; swaps = [] }) }
 {
     Path::of(alloc, true, &c.marks()?, &[])
 }
 
-// The stop where a quantity does not fit once so many constants have changed.
+// The stop if a quantity does not fit after so many constants changed.
 fn shifts_stop(alloc: Global, c: &Corner, quantity: Quantity, changed: u32) -> RunStop
     requires { IsPlain quantity }
     ensures { IsShiftsStop c.now.marks quantity changed result }
@@ -58,7 +58,7 @@ fn shifts_stop(alloc: Global, c: &Corner, quantity: Quantity, changed: u32) -> R
     }
 }
 
-// A list of no line, with room for some.
+// An empty list of lines, with room for some.
 fn no_line(alloc: Global) -> Result<Vec<RowName>, OutOfMemory>
     ensures { IfOk result (λ low. low.items ≡ []) }
 {

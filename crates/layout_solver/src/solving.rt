@@ -1,4 +1,4 @@
-// The way of a corner to the best one of what is requested.
+// From a corner to the best one of a request's problem.
 ghost use Rattle.std.specs.Prelude.{◌≡◌, [], IfOk, IfErr, Ok, Err};
 ghost use Rattle.corner_ends.specs.Runs.{HasEnded};
 ghost use Rattle.layout_solver.specs.Layouts.{Layout};
@@ -15,7 +15,7 @@ use cert_core::RunStop;
 use corner::Corner;
 use std::alloc::Global;
 
-// What a run comes to, as the end of a request.
+// The outcome of a run, as that of a request.
 fn end_of(alloc: Global, run: Result<(), RunStop>) -> Result<(), RequestStop>
     ensures ok { IfOk result (λ u. run ≡ Ok u) }
     ensures stop { IfErr result (λ stop. (still_of stop ≡ []) × (run ≡ Err (run_of stop))) }

@@ -1,4 +1,4 @@
-// The best corner of a problem, found anew.
+// The best corner of a problem, from nothing.
 ghost use Rattle.std.specs.Prelude.{◌≡◌, ◌<◌, ◌+◌, [], length, take, drop, false, IfOk, IfErr};
 ghost use Rattle.problem_core.specs.Layout as layout;
 ghost use Rattle.problem_core.specs.Kept.{IsWhole};
@@ -33,7 +33,7 @@ fn add_stays(c: &mut Corner, stays: &[Stay]) -> Result<(), OutOfMemory>
     Ok(())
 }
 
-// Gives the corner of nothing these stays and rows, goes on to the best corner, and marks it.
+// Adds these stays and rows to the empty corner, goes on to the best corner, and marks it.
 fn fill(
     alloc: Global,
     c: &mut Corner,
@@ -60,11 +60,11 @@ fn fill(
     Ok(())
 }
 
-/// The best corner of the problem of these stays and rows, marked, to which a run leads from where all rows
-/// have joined, each with its mark that isn't negative at the targets of the stays.
+/// The best corner of the problem of these stays and rows, marked. All rows join first, each with its mark
+/// that isn't negative at the targets of the stays, and one run leads from there.
 ///
-/// The stops are those of `Engine::solve`, where the rows are added to an engine that holds nothing but these
-/// attributes at the targets.
+/// The stops are those of `Engine::solve` if the rows are added to an engine that holds only these attributes
+/// at the targets.
 pub fn started(alloc: Global, stays: &[Stay], rows: &[Row], budget: u64) -> Result<Corner, RunStop>
     requires whole { IsWhole (as_problem rows.now stays.now) }
     ensures problem { IfOk result (λ c. c.problem ≡ as_problem rows.now stays.now) }
@@ -110,7 +110,7 @@ fn join_next(
     join(alloc, c, &rows[i..i + 1], budget)
 }
 
-// Adds rows to the corner of none one after another, and goes on to the best corner after each.
+// Adds rows to a corner without rows, one after another, and goes on to the best corner after each.
 fn join_each(alloc: Global, c: &mut Corner, rows: &[Row], budget: u64) -> Result<(), RunStop>
     requires marked { 0 < length c.old.before }
     requires none { c.old.problem.rows ≡ [] }
@@ -130,8 +130,7 @@ fn join_each(alloc: Global, c: &mut Corner, rows: &[Row], budget: u64) -> Result
     Ok(())
 }
 
-// Gives the corner of nothing these stays, and then one row after another; goes on to the best corner, and
-// marks it.
+// Adds these stays to the empty corner, then one row after another, goes on to the best corner, and marks it.
 fn fill_by_rows(
     alloc: Global,
     c: &mut Corner,
@@ -156,11 +155,11 @@ fn fill_by_rows(
     Ok(())
 }
 
-/// The best corner of the problem of these stays and rows, marked, to which the rows lead one after another:
-/// where each joins what is best of those before it, the rows of the corner stay short.
+/// The best corner of the problem of these stays and rows, marked. The rows join one after another, each at
+/// the best corner of those before it, which keeps the rows of the tableau short.
 ///
-/// A stop is that of one of the runs, each of which has the whole budget. Where one stops, [`started`] goes
-/// another way, and may come to the end.
+/// A stop is that of one of the runs, and each run has the whole budget. If one stops, [`started`] takes
+/// another path, and may reach the end.
 pub fn started_by_rows(
     alloc: Global,
     stays: &[Stay],

@@ -1,4 +1,4 @@
-// What an attribute would be if rows joined.
+// The value that an attribute would have if rows joined.
 ghost use Rattle.std.specs.Prelude.{◌<◌, ◌≡◌, ◌++◌, [], length, false, IfOk, IfErr};
 ghost use Rattle.frac_core.specs.declared.memory.Stop.TheVariants.{Refused, OutOfMemory as NoMemory};
 ghost use Rattle.problem_core.specs.declared.stops.Quantity as quantities;
@@ -28,8 +28,8 @@ use problem_core::{Quantity, Row, RowName, TableStop};
 use std::alloc::Global;
 use thiserror::Error;
 
-/// Moves the stays to the present values, adds rows, and goes on to the best corner, where the attribute has
-/// this value.
+/// Moves the stays to the present values, adds rows, and goes on to the best corner, and returns the
+/// attribute's value there.
 pub(crate) fn tried(
     alloc: Global,
     c: &mut Corner,
@@ -55,13 +55,13 @@ pub(crate) fn tried(
     Ok(c.attr_value(attr))
 }
 
-/// Why a trial of another constant tells no value.
+/// Why a trial of another constant finds no value.
 #[derive(Debug, Drop, Error)]
 pub enum TrialStop {
     /// The rows do not join.
     #[error("the rows don't join: {0}")]
     Joining(RunStop),
-    /// Where they have joined this does not fit with the other constant.
+    /// After they joined, this quantity does not fit with the other constant.
     #[error("a quantity doesn't fit with the other constant")]
     Changing(Quantity),
     /// The run from there stops.
@@ -69,7 +69,7 @@ pub enum TrialStop {
     Running(RunStop),
 }
 
-// The stop of a constant that does not change.
+// The stop if the constant can't change.
 fn change_stop(stop: TableStop) -> TrialStop
     ensures refused { (q : quantities.Quantity) → stop ≡ Refused q → result ≡ trial.Changing q }
     ensures memory { stop ≡ NoMemory → result ≡ trial.Running OutOfMemory }
@@ -80,7 +80,7 @@ fn change_stop(stop: TableStop) -> TrialStop
     }
 }
 
-// Goes on to the best corner, where the attribute has this value. These lines are those whose values are
+// Goes on to the best corner, where the attribute has this value. `low` lists the lines whose values are
 // negative.
 fn restored(
     alloc: Global,
@@ -102,7 +102,7 @@ fn restored(
     Ok(c.attr_value(attr))
 }
 
-// Gives a row another constant, and goes on to the best corner, where the attribute has this value.
+// Gives a row another constant, and goes on to the best corner, and returns the attribute's value there.
 fn shifted(
     alloc: Global,
     c: &mut Corner,
@@ -131,7 +131,7 @@ fn shifted(
 }
 
 /// Moves the stays to the present values, adds rows, gives a row another constant, and goes on to the best
-/// corner, where the attribute has this value.
+/// corner, and returns the attribute's value there.
 pub(crate) fn pushed(
     alloc: Global,
     c: &mut Corner,

@@ -1,4 +1,4 @@
--- The text of what is found of a scene, and of the probe that stopped.
+-- The text of the findings of a scene, and of the probe that stopped.
 use Rattle.std.specs.Prelude.{ℕ, Bool, true, false, cond, nat_eq, List, [], ◌∷◌, ◌++◌, codes, decimal}
 use Rattle.std.specs.Prelude.{Option, Some, None}
 use Rattle.std.specs.List.{flat_map}
@@ -17,7 +17,7 @@ word_at id attr =
     (cond (nat_eq attr (width_of id)) (Some (codes "width"))
     (cond (nat_eq attr (height_of id)) (Some (codes "height")) None)))
 
--- the view's name, a point and the word; where there is no word, the other name
+-- the view's name, a dot and the word; if there is no word, the other name
 abbrev pub name_or : List ℕ → Option (List ℕ) → List ℕ → List ℕ
 name_or name None other = other
 name_or name (Some word) other = name ++ (point ∷ word)
@@ -43,12 +43,12 @@ unmet_line e = found_line (codes "unmet ") (decimal e.0) e.1
 abbrev pub moving_line : List LiveView → ℕ × Fraction → List ℕ
 moving_line views m = found_line (codes "ambiguous ") (attr_name views m.0) m.1
 
--- the lines of what is found: the errors, then the unmet rows, then the ambiguous attributes
+-- the lines of the findings: the errors, then the unmet rows, then the ambiguous attributes
 abbrev pub findings_text : List LiveView → Findings → List ℕ
 findings_text views f = flat_map error_line f.errors
     ++ (flat_map unmet_line f.unmet ++ flat_map (moving_line views) f.moving)
 
--- a probe's direction, behind a space
+-- a probe's direction, after a space
 abbrev pub way_text : Bool → List ℕ
 way_text true = codes " up"
 way_text false = codes " down"

@@ -1,4 +1,4 @@
--- Text that goes to a sink piece by piece.
+-- Text written to a sink piece by piece.
 use Rattle.std.specs.Prelude.{ℕ, List, [], Option, Some, None, slice_get}
 use Rattle.std.specs.Prelude.{Result, OnOk, OnErr}
 use Rattle.std.specs.Io.KnownBytes.{Appends}
@@ -9,7 +9,7 @@ use Rattle.view_tree.specs.Views.{LiveView}
 use Rattle.scenes.specs.Scene.{Scene}
 use Rattle.reply_texts.specs.Frames.{frame_text}
 
--- the text was put into a sink, or a front of it where the sink failed
+-- the text was written to a sink, or a prefix of it if the sink failed
 pub record Puts {K T E : Type 0} (held : K → Option (List ℕ)) (faults : K → ℕ) (old new : K) (text : List ℕ)
     (result : Result T E) : Type 0 where
   pub ok : OnOk result (Appends (held old) (held new) text)

@@ -101,7 +101,7 @@ still_line = id_line (codes "still ")
 abbrev pub held_line : ℕ → List ℕ
 held_line = id_line (codes "held ")
 
--- what stands before the path: no line where the command's own run stops
+-- the lines before the path: none if the command's own run stops
 abbrev pub place_text : List LiveView → Place → List ℕ
 place_text views Step = []
 place_text views (Still ids) = flat_map still_line ids
@@ -118,12 +118,12 @@ overflow_text views place path quantity = line_of (codes "refused 7 overflow")
 abbrev pub spent_text : List LiveView → Place → Path → List ℕ
 spent_text views place path = line_of (codes "refused 8 spent") ++ (place_text views place ++ path_text path)
 
--- the wished value of a probe is what doesn't fit
+-- the wished value of a probe doesn't fit
 abbrev pub target_text : List LiveView → ℕ → Bool → List ℕ
 target_text views attr up = line_of (codes "refused 7 overflow")
     ++ (probe_line views attr up ++ line_of (codes "unfit target"))
 
--- the lines of what is found of the scene, and `ok`
+-- the lines of the findings of the scene, and `ok`
 abbrev pub diagnosis_text : Scene → Findings → List ℕ
 diagnosis_text scene findings = findings_text scene.tree.views findings ++ line_of (codes "ok")
 
@@ -139,7 +139,7 @@ core_text ids by values = core_lines ids by values ++ line_of (codes "ok")
 abbrev pub sweep_text : Scene → List Stretch → List ℕ
 sweep_text scene stretches = flat_map (stretch_text scene.tree.views) stretches ++ line_of (codes "ok")
 
--- the text of a refusal, where these are the views
+-- the text of a refusal; these are the views
 abbrev pub refusal_text : List LiveView → Reply → List ℕ
 refusal_text views Nothing = []
 refusal_text views Done = []
@@ -162,7 +162,7 @@ refusal_text views (Spent place path) = spent_text views place path
 refusal_text views (NoTarget attr up) = target_text views attr up
 refusal_text views (SweepOverflow width path what) = far_text width path what
 
--- the text of a reply, of which the scene is the one after the line
+-- the text of a reply; the scene is the one after the line
 abbrev pub text_of : Scene → Reply → List ℕ
 text_of scene Nothing = []
 text_of scene Done = line_of (codes "ok")

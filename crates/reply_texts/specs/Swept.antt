@@ -16,7 +16,7 @@ use Rattle.reply_texts.specs.Frames.{placed_text, value_text}
 abbrev pub range_text : List ℕ → Fraction → Fraction → List ℕ
 range_text word from to = word ++ (value_text from ++ (value_text to ++ newline ∷ []))
 
--- the frames of all views at an end of a piece, behind a word each
+-- the frames of all views at an end of a piece, each after a word
 abbrev pub ends_text : List ℕ → List (ℕ × Fraction) → List LiveView → List ℕ
 ends_text word values views = flat_map (placed_text word values) views
 

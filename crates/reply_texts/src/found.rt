@@ -1,4 +1,4 @@
-// The text of what is found of a scene, and of the probe that stopped.
+// The text of the findings of a scene, and of the probe that stopped.
 ghost use Rattle.std.specs.Prelude.{◌≡◌, ◌<◌, ◌++◌, ◌∷◌, [], Some, None, slice_get, IfOk, IfSome, IfNone};
 ghost use Rattle.std.specs.List.{flat_map};
 ghost use Rattle.span_text.specs.Bytes.{newline, point, space};
@@ -34,7 +34,7 @@ fn word_of(view: ViewId, attr: u32) -> Option<&'static str>
     }
 }
 
-// Appends a name, a point and a word.
+// Appends a name, a dot and a word.
 fn push_name(out: &mut Vec<u8>, name: &str, word: &str) -> Result<(), OutOfMemory>
     ensures { IfOk result (λ _. out.new.items ≡ out.old.items ++ (name.now ++ point ∷ word.now)) }
 {
@@ -156,7 +156,7 @@ fn push_movings(out: &mut Vec<u8>, tree: &Tree, moving: &[(u32, Frac)]) -> Resul
     Ok(())
 }
 
-/// Appends the lines of what is found of a scene.
+/// Appends the lines of the findings of a scene.
 pub(crate) fn push_found(
     out: &mut Vec<u8>,
     tree: &Tree,
@@ -170,7 +170,7 @@ pub(crate) fn push_found(
     push_movings(out, tree, &found.moving)
 }
 
-// What a probe is said to go.
+// The word for a probe's direction.
 fn way_of(up: bool) -> &'static str
     ensures { result.now ≡ way_text up }
 {

@@ -40,7 +40,7 @@ fn push_values(out: &mut Vec<u8>, frame: &Frame) -> Result<(), OutOfMemory>
     push_value(out, Wide::from(frame.height))
 }
 
-/// Appends the line that shows a frame, behind a word.
+/// Appends the line that shows a frame, after a word.
 #[tactic(auto, unfolding(crate::specs::Frames::placed_line))]
 pub(crate) fn push_frame(
     out: &mut Vec<u8>,
@@ -58,7 +58,7 @@ pub(crate) fn push_frame(
     Ok(())
 }
 
-/// A frame by the names of its parts, which are left, top, width and height.
+/// A frame by the names of its parts: left, top, width and height.
 pub(crate) fn named(frame: &[Frac; 4]) -> Frame
     ensures { frame.now ≡ result.left ∷ result.top ∷ result.width ∷ result.height ∷ [] }
 {

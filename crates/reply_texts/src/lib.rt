@@ -1,4 +1,4 @@
-//! The text of replies: what is written of the answer to a line, accepted or refused.
+//! The text of replies to lines, accepted or refused.
 //!
 //! ```
 //! // the session has answered the line `frames`
@@ -6,12 +6,12 @@
 //! print_frames(&session, &mut sink)?;       // the same, straight to a sink, and without memory
 //! ```
 //!
-//! [`reply_text`] appends the lines of a reply, [`show_frames`] those of `frames`, and [`print_frames`] puts
-//! these into a sink; [`push_at`] appends the line of one frame, [`push_attr`] an attribute's name, and
+//! [`reply_text`] appends the lines of a reply, [`show_frames`] those of `frames`, and [`print_frames`]
+//! writes these to a sink; [`push_at`] appends the line of one frame, [`push_attr`] an attribute's name, and
 //! [`push_line`] a line of bytes and a word. Nothing here reads, and nothing changes a session.
 //!
-//! What always holds: a refusal for want of memory has no text; a change's reply has [`OK_LENGTH`] bytes, and
-//! where there is room for these its text is appended.
+//! What always holds: if memory ran out, a refusal has no text; a change's reply has [`OK_LENGTH`] bytes, and
+//! if there is room for these, its text is appended.
 //!
 //! In reading order: `frames`, `names` (the attributes by their names), `found` (what a scene lacks, and
 //! probes), `numbers` (rows by number), `cores` (rows that clash), `swept` (every width between two),

@@ -1,4 +1,4 @@
-// Lines with one word at their end, and those of rows by number.
+// Lines that end with one word, and those of rows by number.
 ghost use Rattle.std.specs.Prelude.{◌≡◌, ◌++◌, ◌∷◌, [], IfOk};
 ghost use Rattle.std.specs.List.{flat_map};
 ghost use Rattle.span_text.specs.Bytes.{newline};
@@ -16,7 +16,7 @@ pub fn push_line(out: &mut Vec<u8>, front: &[u8], word: &[u8]) -> Result<(), Out
     Ok(())
 }
 
-/// Appends the line of a row behind a word.
+/// Appends the line of a row after a word.
 pub(crate) fn push_id(out: &mut Vec<u8>, front: &[u8], id: u32) -> Result<(), OutOfMemory>
     ensures { IfOk result (λ _. out.new.items ≡ out.old.items ++ id_line front.now id) }
 {
@@ -25,7 +25,7 @@ pub(crate) fn push_id(out: &mut Vec<u8>, front: &[u8], id: u32) -> Result<(), Ou
     push_line(out, front, word.as_bytes())
 }
 
-/// Appends the lines of these rows, each behind the word.
+/// Appends the lines of these rows, each after the word.
 pub(crate) fn push_ids(out: &mut Vec<u8>, front: &[u8], ids: &[u32]) -> Result<(), OutOfMemory>
     ensures { IfOk result (λ _. out.new.items ≡ out.old.items ++ flat_map (id_line front.now) ids.now) }
 {

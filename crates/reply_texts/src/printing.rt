@@ -1,4 +1,4 @@
-// Frames that go straight to a sink.
+// Frames written straight to a sink.
 ghost use Rattle.std.specs.Prelude.{◌≡◌, ◌≤◌, ◌+◌, ◌++◌, [], length, take, IfOk, IfSome, IfNone};
 ghost use Rattle.reply_texts.specs.Printing.{Puts, line_at};
 ghost use Rattle.reply_texts.specs.Frames.{frame_line, value_text};
@@ -19,7 +19,7 @@ const LINE_ROOM: usize = 256;
 // The room for a value: a space, a sign, two numbers of twenty digits at most, and a slash.
 const VALUE_ROOM: usize = 43;
 
-// Writes some bytes behind the first `at` bytes of a line, and says where they end.
+// Writes some bytes after the first `at` bytes of a line, and returns where they end.
 fn write_bytes(line: &mut [u8; LINE_ROOM], at: usize, bytes: &[u8]) -> usize
     requires { at + length bytes.now ≤ LINE_ROOM }
     ensures end { result ≡ at + length bytes.now }
@@ -47,7 +47,7 @@ fn write_value(line: &mut [u8; LINE_ROOM], at: usize, value: Frac) -> usize
     write_bytes(line, at, digits.format(value.den()).as_bytes())
 }
 
-// Writes the line that shows a frame, and says how long it is.
+// Writes the line that shows a frame, and returns its length.
 #[tactic(auto, unfolding(crate::specs::Frames::placed_line))]
 fn write_frame(line: &mut [u8; LINE_ROOM], name: &[u8], frame: &Frame) -> usize
     requires { length name.now ≤ NAME_LIMIT }
@@ -76,7 +76,7 @@ pub(crate) fn append_frame(out: &mut Vec<u8>, name: &[u8], frame: &Frame) -> Res
     Ok(())
 }
 
-// Puts the line that shows a frame.
+// Writes the line that shows a frame to the sink.
 fn print_frame<K: Sink>(sink: &mut K, name: &[u8], frame: &Frame) -> Result<(), Failed>
     requires { length name.now ≤ NAME_LIMIT }
     ensures { Puts K.held K.faults sink.old sink.new
@@ -112,7 +112,7 @@ fn shown_at(scene: &Scene, place: usize) -> Option<Shown<'_>>
     })
 }
 
-// Puts the line that shows the frame of the view at a place, if a view is there.
+// Writes the line that shows the frame of the view at a place to the sink, if a view is there.
 fn print_at<K: Sink>(sink: &mut K, scene: &Scene, place: usize) -> Result<(), Failed>
     ensures { Puts K.held K.faults sink.old sink.new (line_at scene.now.scene place) result }
 {
@@ -122,8 +122,8 @@ fn print_at<K: Sink>(sink: &mut K, scene: &Scene, place: usize) -> Result<(), Fa
     }
 }
 
-/// Puts the reply to `frames`: the lines of the frames of all views, and `ok`. It takes no memory. `Failed`
-/// comes only from the sink, and then a front of the reply was appended.
+/// Writes the reply to `frames` to the sink: the lines of the frames of all views, and `ok`. It needs no
+/// memory. `Failed` comes only from the sink, after a prefix of the reply was written.
 pub fn print_frames<K: Sink>(session: &Session, sink: &mut K) -> Result<(), Failed>
     ensures { Puts K.held K.faults sink.old sink.new (frames_text session.now.scene) result }
 {

@@ -69,7 +69,7 @@ fn push_conflict(out: &mut Vec<u8>, conflict: &Conflict) -> Result<(), OutOfMemo
     conflict_text(conflict, out)
 }
 
-// Appends what stands before the path of a stop.
+// Appends the lines before the path of a stop.
 fn push_place(out: &mut Vec<u8>, tree: &Tree, place: &StopPlace) -> Result<(), OutOfMemory>
     ensures { IfOk result
         (λ _. out.new.items ≡ out.old.items ++ place_text tree.now.views (place_of place.now)) }
@@ -120,7 +120,7 @@ fn push_target(out: &mut Vec<u8>, tree: &Tree, attr: u32, up: bool) -> Result<()
     Ok(())
 }
 
-/// Appends the text of a refusal, where these are the views. None is told of want of memory.
+/// Appends the text of a refusal. These are the views. If memory ran out, there is none.
 pub fn push_refusal(tree: &Tree, refusal: &Refusal, out: &mut Vec<u8>) -> Result<(), OutOfMemory>
     ensures { IfOk result (λ _. IsTold (λ reply. out.new.items
         ≡ out.old.items ++ refusal_text tree.now.views reply) refusal.now) }

@@ -48,8 +48,8 @@ fn push_names(session: &Session, out: &mut Vec<u8>) -> Result<(), OutOfMemory>
     Ok(())
 }
 
-/// Appends the reply to `frames`: the lines of the frames of all views, and `ok`. After want of memory a
-/// part of it may be there.
+/// Appends the reply to `frames`: the lines of the frames of all views, and `ok`. If memory runs out, a part
+/// of it may have been appended.
 pub fn show_frames(session: &Session, out: &mut Vec<u8>) -> Result<(), OutOfMemory>
     ensures { IfOk result (λ _. out.new.items ≡ out.old.items ++ frames_text session.now.scene) }
 {
@@ -102,7 +102,7 @@ fn show_core(
     push_ok(out)
 }
 
-// What is found of the required rows of the problem that a command would solve, whatever the scene.
+// The answer about the required rows of the problem that a command would solve, whatever the scene.
 fn show_answer(found: &Found, out: &mut Vec<u8>) -> Result<(), OutOfMemory>
     ensures { (scene : Scene) → IfOk result
         (λ _. out.new.items ≡ out.old.items ++ text_of scene (found_reply found.now)) }
@@ -181,8 +181,8 @@ fn append_text(
     Ok(())
 }
 
-/// Appends the lines of the reply to a command of the session; there are none for want of memory, after which
-/// nothing was appended. Where a change was made, room for [`OK_LENGTH`] bytes is enough.
+/// Appends the lines of the reply to a command of the session. If memory ran out, there are none, and nothing
+/// is appended. If a change was made, room for [`OK_LENGTH`] bytes is enough.
 pub fn reply_text(
     session: &Session,
     reply: &Result<Reply, Refusal>,

@@ -131,7 +131,7 @@ pub(crate) fn push_width(out: &mut Vec<u8>, width: Frac) -> Result<(), OutOfMemo
     Ok(())
 }
 
-// Appends the line of what doesn't fit in a sweep.
+// Appends the line of the quantity that doesn't fit in a sweep.
 fn push_what(out: &mut Vec<u8>, what: &SweepQuantity) -> Result<(), OutOfMemory>
     ensures { IfOk result (λ _. out.new.items ≡ out.old.items ++ far_line what.now) }
 {
@@ -141,7 +141,7 @@ fn push_what(out: &mut Vec<u8>, what: &SweepQuantity) -> Result<(), OutOfMemory>
     }
 }
 
-/// Appends the refusal of a sweep in which something doesn't fit.
+/// Appends the refusal of a sweep in which a quantity doesn't fit.
 pub(crate) fn push_far(
     out: &mut Vec<u8>,
     width: Frac,

@@ -1,4 +1,4 @@
--- What a scene keeps, and of which parts it is made.
+-- What a scene keeps, and its parts.
 use Rattle.std.specs.Prelude.{◌≡◌, ℕ, ◌+◌, ◌<◌, ◌≤◌, List, [], ◌∷◌, All, length, Option, Some, None}
 use Rattle.compile_parts.specs.Meaning.{MetricList}
 use Rattle.view_tree.specs.Views.{ViewTree}
@@ -43,7 +43,7 @@ abbrev pub own_or : {A : Type 0} → Option A → A → A
 own_or None after = after
 own_or (Some own) after = own
 
--- the earlier scenes, the latest first: what each holds, its solution, and what of the rest is its own
+-- the earlier scenes, the latest first: what each holds, its solution, and those other parts that are its own
 abbrev pub earlier_at : ViewTree → MetricList → List (List declared.Item) → List Solution → List Past
     → List Scene
 earlier_at tree metrics [] solutions pasts = []
@@ -53,7 +53,7 @@ earlier_at tree metrics (items ∷ rest) (s ∷ solutions) (p ∷ pasts) =
     scene_of (own_or p.tree tree) (own_or p.metrics metrics) (items_of items) p.setting s
     ∷ earlier_at (own_or p.tree tree) (own_or p.metrics metrics) rest solutions pasts
 
--- the scene of these parts, with those before it, of which so many may be
+-- the scene of these parts, with the earlier ones and their limit
 abbrev pub history_at : ViewTree → MetricList → Versions declared.Item → Setting → Layout → List Past
     → ℕ → History
 history_at tree metrics items setting layout pasts undo = record {

@@ -1,4 +1,4 @@
--- What another value of a metric changes.
+-- The changes for another value of a metric.
 use Rattle.std.specs.Prelude.{◌<◌, ⊤, ◌⊎◌, List, All, AllPairs}
 use Rattle.problem_core.specs.Layout.{Row}
 use Rattle.compile_parts.specs.Meaning.{MetricList}
@@ -19,7 +19,7 @@ pub record AreChangesFor (scene : Scene) (metrics : MetricList) (to : List Chang
   pub rising : AllPairs (λ a b. a.row < b.row) to
   pub kept : AreKept to
 
--- why there are none: a constant isn't small after some term, or moves too far
+-- no such changes exist: a constant isn't small after some term, or moves too far
 abbrev pub MayLackChanges : Scene → MetricList → Stop LargeConstant → Type 0
 MayLackChanges scene metrics (stop.Refused cause) =
     (All (IsSmallItem metrics) scene.held → ⊥)

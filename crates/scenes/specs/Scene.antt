@@ -31,9 +31,9 @@ use Rattle.view_tree.specs.Views as tree
 use Rattle.view_tree.specs.JsonTrees as branches
 
 -- the views, the metrics in order of definition, what is held in order of acceptance, the number that the
--- next row takes, the direction in which lines and suggestions that come are meant, the rows by rising
--- number, the stays, stronger ones first, the values in the stays' order, and the marks inside at the corner
--- that is kept for them
+-- next row takes, the direction of later lines and suggestions, the rows by rising number, the stays,
+-- stronger ones first, the values in the stays' order, and the marks inside at the corner that is kept for
+-- them
 pub record Scene : Type 0 where
   pub tree : ViewTree
   pub metrics : MetricList
@@ -51,7 +51,7 @@ pub record History : Type 0 where
   pub earlier : List Scene
   pub undo : ℕ
 
--- the earlier scenes, once there is another scene after this one: the oldest of too many is forgotten
+-- the earlier scenes after one more step: the oldest of too many is forgotten
 abbrev pub with_earlier : ℕ → Scene → List Scene → List Scene
 with_earlier most scene earlier = take most (scene ∷ earlier)
 
@@ -115,7 +115,7 @@ abbrev pub with_metric : Scene → List ℕ → Fraction → Scene
 with_metric old name value =
     record old { metrics = metrics_with old.metrics name value; stays = moved old.stays old.values }
 
--- a window without a size takes two rows; else its size alone is another
+-- a window without a size takes two rows; otherwise only its size changes
 abbrev pub held_with_size : Bool → ℕ → Fraction → Fraction → List Item → List Item
 held_with_size false n width height held = held ++ Sized n width height ∷ []
 held_with_size true n width height held = resized width height held
@@ -202,8 +202,8 @@ values_by_number scene = map (λ a. (a, value_of scene.values a)) (all_attribute
 
 -- ---- the first scene
 
--- the window alone, with its four rows, no size, and every value 0, where so many views may be live and the
--- marks inside are these
+-- the window alone, with its four rows, no size, and every value 0; at most so many views may be live, and
+-- these are the marks inside
 abbrev pub first_scene_of : ℕ → List Mark → Scene
 first_scene_of views corner = record {
   tree = first_tree views;
@@ -217,7 +217,7 @@ first_scene_of views corner = record {
   corner = corner;
 }
 
--- the same where as many views may be live as ever
+-- the same with the greatest limit of live views
 abbrev pub first_scene : List Mark → Scene
 first_scene corner = first_scene_of VIEW_LIMIT corner
 

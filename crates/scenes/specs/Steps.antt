@@ -22,21 +22,21 @@ pub record IsJoining (rows : List Row) (s : Start) : Type 0 where
   pub primal : s.dual ≡ false
   pub parts : rows ≡ s.before ++ s.joining
 
--- no row joins, and the rows are those before but for their constants
+-- no row joins, and the rows are those before except for their constants
 pub record IsShifting (rows : List Row) (s : Start) : Type 0 where
   pub dual : s.dual ≡ true
   pub none : s.joining ≡ []
   pub alike : map without_constant rows ≡ map without_constant s.before
 
--- where the path from a scene to a draft begins, of which these are the rows: at the corner that is kept for
--- the scene, with the scene's rows
+-- where the path from a scene to a draft with these rows begins: at the corner that is kept for the scene,
+-- with the scene's rows
 pub record IsStart (scene : Scene) (rows : List Row) (s : Start) : Type 0 where
   pub before : s.before ≡ scene.rows
   pub kept : s.kept ≡ scene.corner
   pub kind : IsJoining rows s ⊎ IsShifting rows s
 
--- the new scene is this draft with its rows and the best values, to whose corner a path within the budget
--- leads
+-- the new scene is this draft with its rows and the best values; a path within the budget leads to their
+-- corner
 pub record IsSolved (scene draft : Scene) (budget : ℕ) (path : Path) (new : Scene) : Type 0 where
   pub becomes : Becomes draft new
   pub start : Start
@@ -47,7 +47,7 @@ pub record IsSolved (scene draft : Scene) (budget : ℕ) (path : Path) (new : Sc
 abbrev pub HasSolved : Scene → Scene → ℕ → Scene → Type 0
 HasSolved scene draft budget new = (path : Path) × IsSolved scene draft budget path new
 
--- the run to the draft stops so
+-- how the run to the draft stops
 pub record IsStopped (scene draft : Scene) (budget : ℕ) (stop : RunStop) : Type 0 where
   pub rows : List Row
   pub are : AreDraftRows draft rows
@@ -57,14 +57,14 @@ pub record IsStopped (scene draft : Scene) (budget : ℕ) (stop : RunStop) : Typ
 
 -- ---- leaving
 
--- these leave the scene's problem for that of the draft, of which these are the rows
+-- these leave the scene's problem, and the draft has the rest as its rows
 pub record IsLeaving (scene draft : Scene) (rows : List Row) (l : Leaving) : Type 0 where
   pub can : CanLeave l (stood_of scene)
   pub rising : AllPairs (λ a b. a < b) l.rows
   pub left : draft_problem draft rows ≡ without l (stood_of scene)
 
--- the new scene is this draft with its rows and the best values, to whose corner a path within the budget
--- leads from where the rows have left the corner that is kept for the scene
+-- the new scene is this draft with its rows and the best values; a path within the budget leads to their
+-- corner from where the rows have left the corner that is kept for the scene
 pub record HasLeft (scene draft : Scene) (budget : ℕ) (new : Scene) : Type 0 where
   pub becomes : Becomes draft new
   pub leaving : Leaving
@@ -87,7 +87,7 @@ IsProblemOf draft p = AreDraftRows draft p.rows × (p.stays ≡ draft.stays)
 
 -- ---- stops
 
--- why the run from the scene to the draft stops, where memory may be wanting
+-- why the run from the scene to the draft stops, which may be because memory ran out
 abbrev pub RunStopsAt : Scene → Scene → ℕ → RunStop → Type 0
 RunStopsAt scene draft budget (run.Conflict by) = IsStopped scene draft budget (run.Conflict by)
 RunStopsAt scene draft budget (run.Unfit at) = IsStopped scene draft budget (run.Unfit at)
@@ -102,7 +102,7 @@ LeaveStopsAt scene draft budget (request.Unfit still at) =
 LeaveStopsAt scene draft budget (request.Spent path) = CannotLeave scene draft budget (request.Spent path)
 LeaveStopsAt scene draft budget request.OutOfMemory = Unit {0}
 
--- the run to the draft stops so, and no leaving row is still held
+-- how the run to the draft stops, and no leaving row is still held
 pub record StopsRunning (scene draft : Scene) (budget : ℕ) (stop : RequestStop) : Type 0 where
   pub none : still_of stop ≡ []
   pub stops : RunStopsAt scene draft budget (run_of stop)

@@ -14,8 +14,8 @@ use Rattle.sweep_run.specs.declared.stretches.SweepStop.{SweepStop}
 abbrev pub problem_here : Scene → Problem
 problem_here scene = record { rows = scene.rows; stays = stays_at scene.values }
 
--- what the widths are above the present one, or above each other, doesn't fit (of the widths that a line may
--- name it does)
+-- one of the widths minus the present one, or minus the other, doesn't fit (for the widths that a line may
+-- name, they fit)
 abbrev pub IsFarSweep : List Item → Fraction → Fraction → Type 0
 IsFarSweep held from to = (size : Size) × (size_of held ≡ Some size)
     × (FitsAfter size.width from × FitsAfter size.width to × FitsAfter from to → ⊥)
@@ -24,7 +24,7 @@ IsFarSweep held from to = (size : Size) × (size_of held ≡ Some size)
 abbrev pub IsWidthRow : Scene → ℕ → Type 0
 IsWidthRow scene row = (size : Size) × (size_of scene.held ≡ Some size) × (row ≡ size.first_row)
 
--- the stretches of the window's width from the one to the other
+-- the stretches of the window's width between two widths
 abbrev pub AreSweptOf : Scene → Fraction → Fraction → List Stretch → Type 0
 AreSweptOf scene from to stretches = (row : ℕ) × IsWidthRow scene row
     × IsSweep (problem_here scene) row from to stretches

@@ -6,8 +6,8 @@ ghost use Rattle.scenes.specs.Scene.{Scene};
 ghost use Rattle.view_tree.specs.Views as views;
 ghost use Rattle.view_tree.specs.Views.{view_of};
 
-/// Law: no view that has moved has stayed; where nothing is other, each has stayed; and a view that came, or
-/// that left, has moved.
+/// Law: no view that has moved has stayed; if nothing changed, each has stayed; and a view that came, or that
+/// left, has moved.
 pub fn moved_is_not_stayed()
     ensures apart { (old new : Scene) (id : ℕ) → HasMoved IsFrameOf old new id
         → HasStayed IsFrameOf old new id → ⊥ }

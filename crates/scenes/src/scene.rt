@@ -42,8 +42,8 @@ use sweep_run::{Stretch, SweepStop};
 use version_lists::VersionList;
 use view_tree::{Tree, VIEW_LIMIT, ViewId};
 
-/// The views, the metrics, what is held, and the engine with the rows of it and the best values; and those of
-/// the scenes before, which share with the scene after them what is the same.
+/// The views, the metrics, what is held, and the engine with its rows and the best values; and the earlier
+/// scenes. Each shares its unchanged parts with the scene after it.
 #[derive(Drop)]
 pub struct Scene {
     tree: Tree,
@@ -51,7 +51,7 @@ pub struct Scene {
     items: VersionList<Item>,
     setting: Setting,
     engine: Engine,
-    // What each earlier scene has of its own, the latest first.
+    // The parts of each earlier scene that differ from the scene after it, the latest first.
     pasts: VecDeque<Past>,
     // How many earlier scenes there may be.
     undo: usize,
@@ -93,7 +93,7 @@ fn first_request(alloc: Global) -> Result<Request, OutOfMemory>
     Ok(Request::Add { attrs, rows })
 }
 
-// Gives an engine without rows those of the window, with no layout before.
+// Adds the window's rows to an engine without rows. No earlier layout is kept.
 fn begin(engine: &mut Engine, request: &Request) -> Result<(), OutOfMemory>
     requires new { engine.old ≡ no_layout }
     requires first { IsFirst request.now }
@@ -101,7 +101,7 @@ fn begin(engine: &mut Engine, request: &Request) -> Result<(), OutOfMemory>
         (λ _. engine.new.problem ≡ record { rows = structural_rows; stays = new_stays 0 }) }
     ensures earlier { IfOk result (λ _. engine.new.earlier ≡ []) }
 {
-    // This run needs few exchanges, and all numbers fit, so it is memory that is wanting.
+    // This run needs few exchanges, and all numbers fit. So memory ran out.
     let Ok(()) = engine.solve(request, FIRST_BUDGET) else {
         return Err(OutOfMemory);
     };
@@ -109,7 +109,7 @@ fn begin(engine: &mut Engine, request: &Request) -> Result<(), OutOfMemory>
     Ok(())
 }
 
-// The engine of the window's rows, with no layout before.
+// The engine of the window's rows, without an earlier layout.
 fn first_engine(alloc: Global) -> Result<Engine, OutOfMemory>
     ensures problem { IfOk result
         (λ engine. engine.problem ≡ record { rows = structural_rows; stays = new_stays 0 }) }
@@ -130,7 +130,7 @@ fn first_engine(alloc: Global) -> Result<Engine, OutOfMemory>
     }
 }
 
-// Whether the two constants less the present one fit, and the second less the first.
+// Whether both constants minus the present one fit, and the second minus the first.
 fn is_near_sweep(present: Frac, from: Frac, to: Frac) -> bool
     ensures yes { result ≡ true → FitsAfter present from × FitsAfter present to × FitsAfter from to }
     ensures no { result ≡ false → FitsAfter present from × FitsAfter present to × FitsAfter from to → ⊥ }
@@ -155,7 +155,7 @@ impl Scene {
     ghost use Rattle.std.specs.VecDeque.{deque_capacity};
     ghost use Rattle.held_items.specs.declared.limits.TheConstants.{EARLIER};
 
-    // The window alone, of what is made for it but the engine.
+    // The window alone, from all its parts except the engine.
     fn with_parts(
         alloc: Global,
         tree: Tree,
@@ -191,7 +191,7 @@ impl Scene {
         })
     }
 
-    // The window alone, of its views and metrics.
+    // The window alone, from its views and metrics.
     fn with_names(
         alloc: Global,
         tree: Tree,
@@ -210,7 +210,7 @@ impl Scene {
         Scene::with_parts(alloc, tree, metrics, items, pasts, undo)
     }
 
-    /// The window alone, where so many views may be live and so many scenes are earlier at most.
+    /// The window alone, with at most `views` live views and at most `undo` earlier scenes.
     pub fn with(alloc: Global, views: u32, undo: usize) -> Result<Scene, OutOfMemory>
         requires some { 0 < views }
         requires few { views ≤ VIEW_LIMIT }
@@ -254,7 +254,7 @@ impl Scene {
         self.setting.next_row
     }
 
-    /// The direction in which lines and suggestions that come are meant.
+    /// The direction of later lines and suggestions.
     pub fn direction(&self) -> Direction
         ensures { result ≡ self.now.scene.direction }
     {
@@ -279,7 +279,7 @@ impl Scene {
         values_of(self.alloc, &self.tree, &self.engine)
     }
 
-    /// Left, top, width and height of the view at a place, counted from 0 in order of creation. There is none
+    /// Left, top, width and height of the view at a place, counted from 0 in order of creation. `None`
     /// exactly past the end.
     pub fn frame_at(&self, place: usize) -> Option<[Frac; 4]>
         ensures some { IfSome result (IsFrameAt self.now.scene place) }
@@ -290,8 +290,8 @@ impl Scene {
         Some(frame_of(&self.engine, view.id.0))
     }
 
-    /// Left, top, width and height of a view, in window coordinates. There is none exactly where no view has
-    /// the number.
+    /// Left, top, width and height of a view, in window coordinates. `None` exactly if no view has the
+    /// number.
     pub fn frame(&self, view: ViewId) -> Option<[Frac; 4]>
         ensures some { IfSome result (IsFrameOf self.now.scene view.0) }
         ensures none { IfNone result (view_of self.now.scene.tree.views view.0 ≡ None) }
@@ -334,22 +334,22 @@ impl Scene {
         has_group(self.items.as_slice(), name)
     }
 
-    /// The suggestion of this attribute of the view, where one is held.
+    /// The suggestion of this attribute of the view, if one is held.
     pub fn suggestion(&self, view: ViewId, word: AttrWord) -> Option<Suggestion>
         ensures { result ≡ suggestion_of view.0 word self.now.scene.held }
     {
         suggestion_of(self.items.as_slice(), view.0, word)
     }
 
-    /// The size that the view would like, where one is held.
+    /// The size that the view would like, if one is held.
     pub fn intrinsic(&self, view: ViewId) -> Option<IntrinsicSize>
         ensures { result ≡ intrinsic_of view.0 self.now.scene.held }
     {
         intrinsic_of(self.items.as_slice(), view.0)
     }
 
-    /// All that the layout lacks and leaves open. The scene is as before. A stop comes with the number of the
-    /// attribute whose probe stopped.
+    /// Finds what the layout lacks and what it leaves open. The scene does not change. A stop has the number
+    /// of the attribute whose probe stopped.
     pub fn diagnose(&mut self, budget: u64) -> Result<Diagnosis, Stopped>
         ensures found { IfOk result (λ d. AreFindingsOf self.old.scene (findings_of d)) }
         ensures stop { IfErr result (λ s. IsProbedStop self.old.scene budget s.attr s.stop) }
@@ -359,8 +359,8 @@ impl Scene {
         diagnose(self.alloc, &mut self.engine, budget)
     }
 
-    /// The multipliers that show the values to be best: those of the corner's levels, in the form in which a
-    /// checker reads them.
+    /// The multipliers that show the values to be best: those of the corner's levels, in the form that a
+    /// checker reads.
     pub fn certificate(&self) -> Result<Best, OutOfMemory>
         ensures { IfOk result (IsCertificateOf self.now.scene) }
     {
@@ -368,8 +368,7 @@ impl Scene {
         self.engine.certificate()
     }
 
-    /// Whether the window has a width, and what these widths are above that, or above each other, doesn't
-    /// fit.
+    /// Whether the window has a width, and one of these widths minus it, or minus the other, doesn't fit.
     pub fn is_far_sweep(&self, from: Frac, to: Frac) -> bool
         ensures yes { result ≡ true → IsFarSweep self.now.scene.held from to }
         ensures no { result ≡ false → IsFarSweep self.now.scene.held from to → ⊥ }
@@ -380,8 +379,8 @@ impl Scene {
         }
     }
 
-    /// What is best for all widths of the window from the one to the other, where it has a size, with the
-    /// stays at the present values. The scene is as before.
+    /// Solves for every width of the window between `from` and `to`, with the stays at the present values.
+    /// The window has a size. The scene does not change.
     pub fn sweep(&self, from: Frac, to: Frac, budget: u64) -> Result<Vec<Stretch>, SweepStop>
         requires sized { has_size self.now.scene.held ≡ true }
         requires order { IsNoMore from to }
@@ -412,7 +411,7 @@ impl Scene {
         ensures back { self.old.earlier ≡ self.new.scene ∷ self.new.earlier }
         ensures undo { self.new.undo ≡ self.old.undo }
     {
-        // There are as many as earlier scenes.
+        // There is one for each earlier scene.
         let Some(past) = self.pasts.pop_front() else {
             return;
         };

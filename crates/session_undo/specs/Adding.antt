@@ -91,7 +91,7 @@ IsRefused old (mean.Other c) = TriedPlain old c NoAnswer
 
 -- ---- no cause is there
 
--- where no view may have this name, whatever view it is to stand in, why; otherwise as F says
+-- if no view may have this name, whatever its parent, the refusal; otherwise as F says
 abbrev pub UnlessUnfree : State → List ℕ → (Reply → State → Type 0) → Reply → State → Type 0
 UnlessUnfree old name F =
     Unless (IsTaken old.scene name) (Taken name) old
@@ -104,7 +104,7 @@ pub record IsFreeName (old : State) (name : List ℕ) : Type 0 where
   pub short : length name ≤ NAME_LIMIT
   pub few : length old.scene.tree.views < old.limits.views
 
--- the views that come are one of this name, in the one of that number
+-- the new views are one of this name, below the view of that number
 pub record IsViewMore (scene : Scene) (name : List ℕ) (above : ℕ) (new : NewViews) : Type 0 where
   pub fresh : IsNewView scene.tree name above
   pub tree_is : new.tree ≡ tree.with_view scene.tree name above
@@ -112,7 +112,7 @@ pub record IsViewMore (scene : Scene) (name : List ℕ) (above : ℕ) (new : New
   pub one : new.count ≡ 1
   pub coming : AreComing scene new
 
--- a view of this name, in the one of that number, would pass this limit of the tree
+-- a view of this name, below the view of that number, would pass this limit of the tree
 abbrev pub ViewStep : State → List ℕ → ℕ → Reply → State → Type 0
 ViewStep old name above reply new =
     (limit : LimitWord) × MayStop old.scene.tree name above (view_stop.Limit limit)
@@ -217,7 +217,7 @@ SuggestStep old view attr value priority =
     (rank : ℕ) × IsRank old.scene.tree.views old.scene.metrics (suggested_priority priority) rank
     × Suggests old view attr value priority rank (suggestion_of view attr old.scene.held) NoEnd reply new)
 
--- the view of this name, of which this suggestion is held
+-- the view of this name, if this suggestion of it is held
 pub record IsHeldSuggestion (scene : Scene) (name : List ℕ) (attr : AttrWord) (id : ℕ) : Type 0 where
   pub view : LiveView
   pub found : view_named scene.tree.views name ≡ Some view
@@ -283,7 +283,7 @@ SizeStep old view width height hug resist =
     × Sizes old view width height hug resist ranks.hug ranks.resist (intrinsic_of view old.scene.held) NoEnd
     reply new)
 
--- the view of this name, of which a size is held
+-- the view of this name, if a size of it is held
 pub record IsHeldIntrinsic (scene : Scene) (name : List ℕ) (id : ℕ) : Type 0 where
   pub view : LiveView
   pub found : view_named scene.tree.views name ≡ Some view

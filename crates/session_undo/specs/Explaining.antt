@@ -20,15 +20,15 @@ use Rattle.session_undo.specs.Machine.{Keeps, CommandStep, PosesChange, Tried}
 use Rattle.session_undo.specs.Replies.{Reply, Core, Held, Nothing, Solvable, Overflow, Spent}
 use Rattle.session_undo.specs.State.{State}
 
--- the problem is one that the types can hold, its required rows have a solution, and it is told that there is
--- no conflict
+-- the problem is one that the types can hold, its required rows have a solution, and the reply says that
+-- there is no conflict
 pub record FindsNone (old : State) (p : Problem) (reply : Reply) (new : State) : Type 0 where
   pub whole : IsWhole p
   pub solution : Assignment
   pub satisfies : Satisfies p solution
   pub told : Keeps Solvable old reply new
 
--- a core of the problem is told, and what shows it
+-- the reply has a core of the problem, and what shows it
 pub record FindsCore (old : State) (p : Problem) (reply : Reply) (new : State) : Type 0 where
   pub ids : List ℕ
   pub by : List By

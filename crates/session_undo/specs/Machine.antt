@@ -71,11 +71,11 @@ use Rattle.script_text.specs.Meaning as mean
 use Rattle.compile_parts.specs.declared.stops.CompileStop.TheVariants as stop
 use Rattle.diagnosis.specs.declared.probing.DiagnoseStop.TheVariants as probed
 
--- where the fact holds, this refusal and no change; otherwise as F says
+-- if the fact holds, this refusal and no change; otherwise as F says
 abbrev pub Unless : Type 0 → Reply → State → (Reply → State → Type 0) → Reply → State → Type 0
 Unless Fact refusal old F reply new = (Fact × (reply ≡ refusal) × (new ≡ old)) ⊎ ((Fact → ⊥) × F reply new)
 
--- where there is such a cause, its refusal and no change; otherwise as F says
+-- if there is such a cause, its refusal and no change; otherwise as F says
 abbrev pub UnlessAny : {A : Type 0} → (A → Type 0) → (A → Reply) → State → (Reply → State → Type 0)
     → Reply → State → Type 0
 UnlessAny {A = A} IsCause refusal old F reply new =
@@ -115,7 +115,7 @@ pub record Spends (draft : Scene) (old : State) (reply : Reply) (new : State) : 
   pub stopped : IsStopped old.scene draft old.budget (run.Spent path)
   pub refused : Keeps (Spent Step path) old reply new
 
--- the draft is solved, or there is no change, and no conflict is told
+-- the draft is solved, or nothing changes, and the reply is no conflict
 abbrev pub SolvesFree : State → Scene → Reply → State → Type 0
 SolvesFree old draft reply new =
     Accepts draft old reply new ⊎ Overflows draft old reply new ⊎ Spends draft old reply new
@@ -143,7 +143,7 @@ pub record Leaves (draft : Scene) (old : State) (reply : Reply) (new : State) : 
   pub kept : new
       ≡ record old { scene = new.scene; earlier = with_earlier old.limits.undo old.scene old.earlier }
 
--- where rows are still held they are told
+-- the rows that are still held, if any
 abbrev pub still_place : List ℕ → Place
 still_place [] = Step
 still_place (id ∷ ids) = Still (id ∷ ids)
@@ -174,7 +174,7 @@ LeavesFree old draft reply new =
 
 -- ---- what is found
 
--- what is found of the scene is told
+-- the reply has the findings of the scene
 pub record Finds (old : State) (reply : Reply) (new : State) : Type 0 where
   pub findings : Findings
   pub are : AreFindingsOf old.scene findings
@@ -203,14 +203,14 @@ pub record LacksTarget (old : State) (reply : Reply) (new : State) : Type 0 wher
   pub stopped : IsProbedStop old.scene old.budget attr (probed.Target up)
   pub refused : Keeps (NoTarget attr up) old reply new
 
--- what is found of the scene is told, or why a probe stops
+-- the reply has the findings of the scene, or why a probe stops
 abbrev pub Diagnoses : State → Reply → State → Type 0
 Diagnoses old reply new =
     Finds old reply new ⊎ ProbeOverflows old reply new ⊎ ProbeSpends old reply new ⊎ LacksTarget old reply new
 
 -- ---- sweeps
 
--- the one width is above the other, or the window has no size
+-- the first width is above the second, or the window has no size
 abbrev pub IsNoSweep : Scene → Fraction → Fraction → Type 0
 IsNoSweep scene from to = IsLess to from ⊎ (has_size scene.held ≡ false)
 
@@ -218,7 +218,7 @@ IsNoSweep scene from to = IsLess to from ⊎ (has_size scene.held ≡ false)
 abbrev pub IsSweepFree : Scene → Fraction → Fraction → Type 0
 IsSweepFree scene from to = (IsNoSweep scene from to → ⊥) × (IsFarSweep scene.held from to → ⊥)
 
--- the stretches of the widths are told
+-- the reply has the stretches of the widths
 pub record TellsSweep (old : State) (from to : Fraction) (reply : Reply) (new : State) : Type 0 where
   pub stretches : List Stretch
   pub are : AreSweptOf old.scene from to stretches
@@ -239,13 +239,13 @@ pub record SweepSpends (old : State) (from to : Fraction) (reply : Reply) (new :
   pub stopped : IsSweepStopOf old.scene from to old.budget (swept.Spent width path)
   pub refused : Keeps (Spent (Sweep width) path) old reply new
 
--- what is best for each width is told, or why the sweep stops
+-- the reply has the solutions for each width, or why the sweep stops
 abbrev pub Sweeps : State → Fraction → Fraction → Reply → State → Type 0
 Sweeps old from to reply new =
     TellsSweep old from to reply new ⊎ SweepOverflows old from to reply new
     ⊎ SweepSpends old from to reply new
 
--- the widths from the one to the other
+-- the widths between two
 abbrev pub TriedSweep : State → Fraction → Fraction → (Reply → State → Type 0) → Reply → State → Type 0
 TriedSweep old from to F = Unless (IsNoSweep old.scene from to) (Kind kind.Sweep) old
     (Unless (IsFarSweep old.scene.held from to) (Limit word.Constant) old F)
@@ -286,13 +286,13 @@ AreSmall draft = All (IsSmallItem draft.metrics) draft.held
 abbrev pub WithRows : Scene → (List Row → Reply → State → Type 0) → Reply → State → Type 0
 WithRows draft F reply new = (rows : List Row) × AreDraftRows draft rows × F rows reply new
 
--- where a constant isn't small after some term, or moves too far, this limit; otherwise as F says
+-- if a constant isn't small after some term, or moves too far, this limit; otherwise as F says
 abbrev pub UnlessFar : State → Scene → (Reply → State → Type 0) → Reply → State → Type 0
 UnlessFar old draft F =
     Unless (AreSmall draft → ⊥) (Limit word.Constant) old
     (WithRows draft (λ rows. Unless (AreNear old.scene.rows rows → ⊥) (Limit word.Constant) old F))
 
--- where no view is named, the window is meant
+-- the window, if no view is named
 abbrev pub parent_name : Option (List ℕ) → List ℕ
 parent_name None = codes "window"
 parent_name (Some name) = name
@@ -406,7 +406,7 @@ TriedFormat old group align format =
 
 -- ---- suggestions
 
--- where a part of the row's constant for this value isn't small, this limit; otherwise as F says of it
+-- if a part of the row's constant for this value isn't small, this limit; otherwise as F says of it
 abbrev pub UnlessLarge : State → AttrWord → Fraction → (Fraction → Reply → State → Type 0) → Reply → State
     → Type 0
 UnlessLarge old attr value F =
@@ -433,7 +433,7 @@ Suggests old view attr value priority rank (Some held) End =
     Unless (FitsAfter held.constant c → ⊥) (Limit word.Constant) old
     (End (with_suggested old.scene view attr c))))
 
--- where the priority's name is unknown, that; otherwise as F says
+-- if the priority's name is unknown, that; otherwise as F says
 abbrev pub UnlessUnknown : State → Option Meant → (Reply → State → Type 0) → Reply → State → Type 0
 UnlessUnknown old priority F =
     UnlessAny (λ name. unknown_object old.scene.tree.views old.scene.metrics priority ≡ Some name) Unknown
@@ -443,7 +443,7 @@ UnlessUnknown old priority F =
 abbrev pub IsRankless : Scene → Option Meant → Type 0
 IsRankless scene priority = (rank : ℕ) → IsRank scene.tree.views scene.metrics priority rank → ⊥
 
--- where the priority stands for no rank, why; otherwise as F says
+-- if the priority stands for no rank, the refusal; otherwise as F says
 abbrev pub UnlessRankless : State → Option Meant → (Reply → State → Type 0) → Reply → State → Type 0
 UnlessRankless old priority F =
     UnlessUnknown old priority (Unless (IsRankless old.scene priority) (Kind kind.Priority) old F)
@@ -478,7 +478,7 @@ AreKnownPulls scene hug resist =
     (unknown_object scene.tree.views scene.metrics (hugging hug) ≡ None)
     × (unknown_object scene.tree.views scene.metrics (resisting resist) ≡ None)
 
--- where one of the two stands for no rank, why: an unknown name first; otherwise as F says
+-- if one of the two stands for no rank, the refusal: an unknown name first; otherwise as F says
 abbrev pub UnlessPullsRankless : State → Option Meant → Option Meant → (Reply → State → Type 0) → Reply
     → State → Type 0
 UnlessPullsRankless old hug resist F =
@@ -487,7 +487,7 @@ UnlessPullsRankless old hug resist F =
     (Unless (IsRankless old.scene (hugging hug) ⊎ IsRankless old.scene (resisting resist))
     (Kind kind.Priority) old F))
 
--- the size of this view, of which the first row has this number
+-- the size of this view, whose first row has this number
 abbrev pub intrinsic_at : ℕ → ℕ → Fraction → Fraction → ℕ → ℕ → IntrinsicSize
 intrinsic_at first_row view width height hugs resists = record {
   first_row = first_row;
@@ -580,7 +580,7 @@ DropsView old name End reply new =
     (root : LiveView) × (gone : List ℕ) × (view_named old.scene.tree.views name ≡ Some root)
     × AreGoing old.scene.tree.views root.id gone × End (without_views old.scene gone) reply new
 
--- the removal of a view with all that go with it, where it isn't the window
+-- the removal of a view with all views below it, if it isn't the window
 abbrev pub TriedDrop : State → List ℕ → (Scene → Reply → State → Type 0) → Reply → State → Type 0
 TriedDrop old name End =
     Unless (view_named old.scene.tree.views name ≡ None) (Unknown name) old
@@ -640,11 +640,11 @@ ChangeStep old c = Tried old c (EndsAs old (kind_for c))
 
 -- ---- other commands
 
--- a run may not make so many exchanges
+-- so many exchanges are no valid budget
 abbrev pub IsNoBudget : ℕ → Type 0
 IsNoBudget exchanges = (exchanges ≡ 0) ⊎ (BUDGET_LIMIT < exchanges)
 
--- each other command, by its meaning: the causes against it, and `Answer` where there is none
+-- each other command, by its meaning: the causes against it, and `Answer` if there is none
 abbrev pub TriedPlain : State → Plain → (Reply → State → Type 0) → Reply → State → Type 0
 TriedPlain old mean.Undo Answer = Unless (old.earlier ≡ []) NoEarlier old Answer
 TriedPlain old (mean.Budget exchanges) Answer = Unless (IsNoBudget exchanges) (Limit word.Budget) old Answer
@@ -654,7 +654,7 @@ TriedPlain old mean.Rows Answer = Answer
 TriedPlain old mean.Diagnose Answer = Answer
 TriedPlain old mean.Certify Answer = Answer
 
--- the latest earlier scene is the scene, and leaves the list
+-- the latest earlier scene becomes the scene, and leaves the list
 pub record TakesBack (old : State) (reply : Reply) (new : State) : Type 0 where
   pub done : reply ≡ Done
   pub scene : Scene

@@ -127,15 +127,15 @@ MayRefuse F (refusal.NoTarget attr up) = F (NoTarget attr up)
 MayRefuse F (refusal.SweepOverflow width path what) = F (SweepOverflow width path what)
 MayRefuse F refusal.OutOfMemory = ⊤
 
--- where the command is accepted, the step leads to its reply and the session after
+-- if the command is accepted, the step leads to its reply and the session after
 abbrev pub Accepting : (Reply → State → Type 0) → State → Result answer.Reply Refusal → Type 0
 Accepting Allows new result = IfOk result (λ reply. Allows (accepted reply) new)
 
--- where the command is refused, the step allows this, in the session that is as before
+-- if the command is refused, the step allows this refusal, and the session does not change
 abbrev pub Refusing : {T : Type 0} → (Reply → State → Type 0) → State → Result T Refusal → Type 0
 Refusing Allows old result = IfErr result (MayRefuse (λ reply. Allows reply old))
 
--- the refusal is one that is told, and F holds of its reply
+-- the refusal has a reply, and F holds of it
 abbrev pub IsTold : (Reply → Type 0) → Refusal → Type 0
 IsTold F (refusal.Syntax at) = F (Outside at)
 IsTold F (refusal.Unknown name) = F (Unknown name)
@@ -150,7 +150,7 @@ IsTold F (refusal.NoTarget attr up) = F (NoTarget attr up)
 IsTold F (refusal.SweepOverflow width path what) = F (SweepOverflow width path what)
 IsTold F refusal.OutOfMemory = ⊥
 
--- F holds of the reply that is told of what a command led to; none is told of want of memory
+-- F holds of the reply to a command; there is none if memory ran out
 abbrev pub Tells : (Reply → Type 0) → Result answer.Reply Refusal → Type 0
 Tells F (Ok reply) = F (accepted reply)
 Tells F (Err refusal) = IsTold F refusal

@@ -35,7 +35,7 @@ IsBestState s = IsBestScene s.scene × All IsBestScene s.earlier
 abbrev pub first_limits : Limits
 first_limits = record { views = VIEW_LIMIT; lines = MOST_LINES; rows = MOST_ROWS; undo = EARLIER }
 
--- a new session of this version with these limits, where the marks inside are these
+-- a new session of this version with these limits, with these marks inside
 abbrev pub first_state_of : Limits → Version → List Mark → State
 first_state_of limits v corner = record {
   scene = first_scene_of limits.views corner;

@@ -34,7 +34,7 @@ pub struct Ranks {
     pub resist: u16,
 }
 
-/// A size of a view that is held, with another width and height, unless one of them moves too far.
+/// A held size of a view with another width and height, or `None` if one of them moves too far.
 pub fn later_intrinsic(held: &IntrinsicSize, size: &WindowSize) -> Option<IntrinsicSize>
     ensures is { IfSome result
         (λ s. s ≡ record held.now { width = size.now.width; height = size.now.height }) }
@@ -74,7 +74,7 @@ pub fn put_metric(metrics: &mut Metrics, name: &str, value: Frac) -> Result<bool
     }
 }
 
-/// The name of the view that a new one is to stand in: the window where none is named.
+/// The name of the view that a new view goes into: the window if none is named.
 pub fn parent_or_window<'a>(parent: Option<&'a str>) -> &'a str
     ensures { result.now ≡ parent_name (name_view parent.entry) }
 {

@@ -1,9 +1,8 @@
 //! The session of a script: what is held, and what each command does to it.
 //!
-//! A session keeps the views, the metrics, the window's size and the held lines, and an engine with the rows
-//! that they stand for and the values that are best for these. A command that is refused changes nothing;
-//! one that is accepted leaves the scene before it among the earlier ones, of which `undo` takes the latest
-//! back.
+//! A session keeps the views, the metrics, the window's size and the held lines. Its engine has their rows
+//! and the best values for these. A refused command changes nothing. An accepted one makes the scene before
+//! it an earlier scene, and `undo` goes back to the latest of these.
 //!
 //! ```
 //! let mut session = Session::new(alloc)?;
@@ -18,12 +17,12 @@
 //! ```
 //!
 //! The contract of [`Session::apply`] is a step of a machine that is described without any code
-//! (`specs/Machine.antt`): which causes refuse a command, in their order, and what scene an accepted one
-//! leads to. A line may also ask why a command would clash: the causes are then those of the command, and the
-//! problem that it would solve is explained (`specs/Explaining.antt`), which changes nothing.
+//! (`specs/Machine.antt`): the causes that refuse a command, in their order, and the scene after an accepted
+//! one. A line may also ask why a command would clash. It is refused for the same causes, or the problem that
+//! the command would solve is explained (`specs/Explaining.antt`). A question changes nothing.
 //!
-//! What solves a draft, and what a problem is of, is the scene's (`scenes`): a session finds the causes
-//! against a command, and tells what the scene's step came to.
+//! The scene solves drafts and poses problems (`scenes`). The session finds the causes against a command, and
+//! reports the outcome of the scene's step.
 //!
 //! In reading order: `reply`, `limits`, `changes`, `wishes` (suggestions and sizes of views), `session`, and
 //! `session::moved`, the views whose frames the latest step changed.

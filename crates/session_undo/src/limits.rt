@@ -7,7 +7,7 @@ use view_tree::VIEW_LIMIT;
 /// How many lines of groups a new session may hold.
 pub const MOST_LINES: usize = 2_000;
 
-/// How many exchanges a run may be allowed.
+/// The greatest budget of exchanges for a run.
 pub const BUDGET_LIMIT: u64 = 1_000_000_000_000_000_000;
 
 /// How many views, lines of groups and rows there may be, and how many earlier scenes.

@@ -23,7 +23,7 @@ use view_tree::TreeStop;
 /// The reply to an accepted line.
 #[derive(Debug, Drop)]
 pub enum Reply {
-    /// None, to a blank line or a comment.
+    /// No reply, to a blank line or a comment.
     Silent,
     /// A change was made.
     Done,
@@ -35,9 +35,9 @@ pub enum Reply {
     Certificate(Best),
     /// What the layout lacks, and what it leaves open.
     Diagnosed(Diagnosis),
-    /// What the required rows of a command's problem come to.
+    /// Whether the required rows of a command's problem have a solution, or a core of them.
     Why(Found),
-    /// What is best for all widths between two.
+    /// The solutions for every width between two.
     Swept(Stretches),
 }
 
@@ -50,7 +50,7 @@ pub struct Stretches(pub Vec<Stretch>);
 #[error("there is no earlier scene")]
 pub struct NoEarlier;
 
-/// What had to stop where a quantity doesn't fit or the exchanges are used up.
+/// The run that stopped because a quantity doesn't fit or the exchanges are used up.
 #[derive(Debug, Drop)]
 pub enum StopPlace {
     /// The run over the command's own problem.
@@ -65,19 +65,19 @@ pub enum StopPlace {
     Sweep(Frac),
 }
 
-/// Why a line is refused. Then all is as before.
+/// Why a line is refused. A refused line changes nothing.
 #[derive(Debug, Drop, Error)]
 pub enum Refusal {
-    /// The line leaves the grammar at this offset.
+    /// The line violates the grammar at this offset.
     #[error("the line leaves the grammar at offset {0}")]
     Syntax(usize),
-    /// Nothing has this name where a view, a metric, a group or a suggestion must have it.
+    /// No view, metric, group or suggestion has this name, and the line needs one.
     #[error("nothing has the name")]
     Unknown(OwnedName),
     /// A view or a metric has this name.
     #[error("a view or a metric has the name")]
     Taken(OwnedName),
-    /// A limit would be passed.
+    /// A limit would be exceeded.
     #[error("a limit would be passed")]
     Limit(LimitWord),
     /// A name or a number is used wrongly.
@@ -107,14 +107,14 @@ pub enum Refusal {
         attr: u32,
         up: bool,
     },
-    /// What a sweep forms doesn't fit at the end of this path, with this width of the window.
+    /// A quantity of a sweep doesn't fit at the end of this path, with this width of the window.
     #[error("a quantity of a sweep doesn't fit")]
     SweepOverflow {
         width: Frac,
         path: Path,
         what: SweepQuantity,
     },
-    /// Memory is wanting. This ends a run.
+    /// Memory ran out. This ends a script's run.
     #[error("memory is wanting")]
     OutOfMemory,
 }
@@ -141,7 +141,7 @@ impl From<AllocError> for Refusal {
     }
 }
 
-/// The refusal for what keeps a tree out, whose text begins at this offset of its line.
+/// The refusal of a tree whose text begins at this offset of its line.
 pub fn tree_refusal(start: usize, stop: TreeStop) -> Refusal
     ensures { (old : State) (text : List ℕ) → MayStayOut old.scene.tree old.scene.metrics text stop
         → MayRefuse (λ reply. TriedTree old text start NoEnd reply old) result }
@@ -156,7 +156,7 @@ pub fn tree_refusal(start: usize, stop: TreeStop) -> Refusal
     }
 }
 
-// The refusal for what stops a step of the scene.
+// The refusal for a stop of a step of the scene.
 fn refusal_of(stop: RequestStop) -> Refusal
     ensures { TellsStop stop result }
 {
@@ -178,7 +178,7 @@ fn refusal_of(stop: RequestStop) -> Refusal
     }
 }
 
-/// The answer to what a step of the scene comes to.
+/// The answer for the outcome of a step of the scene.
 pub fn answer_of(end: Result<(), RequestStop>) -> Result<Reply, Refusal>
     ensures { IsAnswerOf end result }
 {
@@ -188,7 +188,7 @@ pub fn answer_of(end: Result<(), RequestStop>) -> Result<Reply, Refusal>
     }
 }
 
-/// The refusal for what stops the probe of an attribute.
+/// The refusal for a stop of the probe of an attribute.
 pub fn probe_refusal(attr: u32, stop: DiagnoseStop) -> Refusal
     ensures { result ≡ probe_refusal attr stop }
 {
@@ -206,7 +206,7 @@ pub fn probe_refusal(attr: u32, stop: DiagnoseStop) -> Refusal
     }
 }
 
-/// The refusal for what stops a trial.
+/// The refusal for a stop of a trial.
 pub fn core_refusal(stop: CoreStop) -> Refusal
     ensures { result ≡ core_refusal stop }
 {
@@ -223,7 +223,7 @@ pub fn core_refusal(stop: CoreStop) -> Refusal
     }
 }
 
-/// The refusal for what stops a sweep.
+/// The refusal for a stop of a sweep.
 pub fn sweep_refusal(stop: SweepStop) -> Refusal
     ensures { result ≡ sweep_refusal stop }
 {

@@ -38,7 +38,7 @@ use std::marker::Model;
 use vfl_text::Format;
 use view_tree::{TreeStop, ViewId, ViewStop};
 
-// Whether a run may not be allowed so many exchanges.
+// Whether so many exchanges are no valid budget.
 fn is_no_budget(exchanges: u64) -> bool
     ensures yes { result ≡ true → IsNoBudget exchanges }
     ensures no { result ≡ false → IsNoBudget exchanges → ⊥ }
@@ -131,7 +131,7 @@ impl Session {
         Session::with(alloc, version, FIRST_LIMITS)
     }
 
-    /// The same with other limits.
+    /// The window alone, for a script of this version, with these limits.
     pub fn with(alloc: Global, version: Version, limits: Limits) -> Result<Session, OutOfMemory>
         requires { AreWithin (limits_of limits) }
         ensures { IfOk result (IsFirstWith (limits_of limits) version) }
@@ -153,14 +153,14 @@ impl Session {
         self.limits
     }
 
-    /// The version of the script, by whose grammar lines are to be read.
+    /// The version of the script, whose grammar lines follow.
     pub fn version(&self) -> Version
         ensures { result ≡ self.now.version }
     {
         self.version
     }
 
-    // Whether so many more rows would be too many, or one would have too great a number.
+    // Whether so many more rows would be too many, or one would have too large a number.
     fn is_crowded(&self, count: usize) -> bool
         ensures yes { result ≡ true → IsCrowded self.now count }
         ensures no { result ≡ false → IsCrowded self.now count → ⊥ }
@@ -183,7 +183,7 @@ impl Session {
         self.scene.metrics().get(name).is_some()
     }
 
-    // Whether there are as many views as there may be.
+    // Whether the limit of views is reached.
     fn has_all_views(&self) -> bool
         ensures yes { result ≡ true → self.now.limits.views ≤ length self.now.scene.tree.views }
         ensures no { result ≡ false → length self.now.scene.tree.views < self.now.limits.views }
@@ -191,7 +191,7 @@ impl Session {
         self.scene.tree().len() >= self.limits.views
     }
 
-    // Why no view may have this name, whatever view it is to stand in.
+    // Whether a view may have this name, or the refusal. It doesn't depend on the parent.
     fn free_name(&self, name: &str) -> Result<(), Refusal>
         ensures free { OnOk result (IsFreeName self.now name.now) }
         ensures refused { Refusing (UnlessUnfree self.now name.now (λ reply new. ⊥)) self.now result }
@@ -208,7 +208,7 @@ impl Session {
         Ok(())
     }
 
-    // The views with one more of this name in this one, or the limit of the tree that it would pass.
+    // The views with one more of this name below this one, or the limit of the tree that it would pass.
     fn views_with(&self, name: &str, above: ViewId) -> Result<NewViews, Refusal>
         requires free { IsFreeName self.now name.now }
         requires live { view_of self.now.scene.tree.views above.0 ≡ None → ⊥ }
@@ -234,7 +234,7 @@ impl Session {
         }
     }
 
-    // The views with a new one in the one of the name `parent`.
+    // The views with a new one below the view of the name `parent`.
     fn new_view(&self, name: &str, parent: &str) -> Result<NewViews, Refusal>
         ensures made { IfOk result
             (λ new. IsFreeView self.now name.now parent.now new.tree new.first_view.0) }
@@ -297,7 +297,7 @@ impl Session {
         }
     }
 
-    // The metrics with this value of one, where there is room for it.
+    // The metrics with this value of one, if there is room for it.
     fn metrics_with(&self, name: &str, value: Frac) -> Result<Option<Metrics>, OutOfMemory>
         ensures made { IfOk result (λ o. IfSome o
             (λ metrics. metrics ≡ metrics_with self.now.scene.metrics name.now value)) }
@@ -312,7 +312,7 @@ impl Session {
         Ok(Some(metrics))
     }
 
-    // The metrics of which this one is new or has another value, with the changes for them.
+    // The metrics with this one new or changed, and the changes of constants for it.
     fn new_metrics(&self, name: &str, value: Frac) -> Result<NewMetrics, Refusal>
         ensures made { IfOk result (λ new. IsFreeMetric self.now name.now value new.metrics new.to.items) }
         ensures refused { Refusing (TriedMetric self.now name.now value NoEnd) self.now result }
@@ -333,7 +333,7 @@ impl Session {
         }
     }
 
-    // The limit that a further line of this group would pass, rows left out.
+    // The limit that one more line of this group would pass, not counting rows.
     fn group_limit(&self, group: &str) -> Option<LimitWord>
         ensures full { IfSome result (IsGroupLimit self.now group.now) }
         ensures free { IfNone result (IsGroupFree self.now group.now) }
@@ -347,7 +347,7 @@ impl Session {
         None
     }
 
-    // The limit that a further line of this group with so many rows would pass.
+    // The limit that one more line of this group with so many rows would pass.
     fn limit_before(&self, group: &str, count: usize) -> Option<LimitWord>
         ensures full { IfSome result (IsLineLimit self.now group.now count) }
         ensures free { IfNone result (IsLineFree self.now group.now count) }
@@ -377,7 +377,7 @@ impl Session {
         Ok(NewItem { item, rows })
     }
 
-    // The refusal of a line of so many rows at which the compiler stops.
+    // The refusal of a line of so many rows that doesn't compile.
     fn line_refusal(&self, group: &str, count: usize, stop: CompileStop) -> Refusal
         ensures { MayRefuse (λ reply. StopStep self.now group.now count stop reply self.now) result }
     {
@@ -461,7 +461,7 @@ impl Session {
         Ok(views.subtree(root)?)
     }
 
-    // The name of a group of which a line is held.
+    // The name of a group, if a line of it is held.
     fn held_group(&self, group: &str) -> Result<OwnedName, Refusal>
         ensures is { IfOk result (λ name. name ≡ group.now) }
         ensures held { OnOk result (list_any (is_in_group group.now) self.now.scene.held ≡ true) }
@@ -474,7 +474,7 @@ impl Session {
         Ok(name)
     }
 
-    // The rank that a priority stands for, if it does; where none is written, that is this usual one.
+    // The rank that a priority stands for, if any. If none is written, it is the usual one.
     fn known_rank(&self, priority: Option<Object<'_>>, usual: u16) -> Result<Option<u16>, Refusal>
         ensures some { IfOk result (λ o. IfSome o (IsRank self.now.scene.tree.views self.now.scene.metrics
             (priority_or usual (object_view priority.entry)))) }
@@ -508,7 +508,8 @@ impl Session {
         }
     }
 
-    // The ranks at which a size hugs and resists. An unknown name comes before a priority that is none.
+    // The ranks at which a size hugs and resists. An unknown name is refused before a priority that stands
+    // for no rank.
     fn ranks_of(&self, pulls: Pulls<'_>) -> Result<Ranks, Refusal>
         ensures ranks { IfOk result (AreRanks self.now.scene (object_view pulls.entry.hug)
             (object_view pulls.entry.resist)) }
@@ -589,7 +590,7 @@ impl Session {
         })
     }
 
-    // What a suggestion comes to, for an attribute of the view.
+    // A suggestion for an attribute of the view: the first one, or a new constant.
     fn suggestion_for(
         &self,
         view: ViewId,
@@ -617,7 +618,7 @@ impl Session {
         }
     }
 
-    // What a suggestion comes to, for an attribute of the view of this name.
+    // A suggestion for an attribute of the view of this name.
     fn new_suggestion(
         &self,
         name: &str,
@@ -663,7 +664,7 @@ impl Session {
         })
     }
 
-    // What the size that the view would like comes to.
+    // The size that the view would like: the first one, or new constants.
     fn intrinsic_for(
         &self,
         view: ViewId,
@@ -691,7 +692,7 @@ impl Session {
         }
     }
 
-    // What the size that the view of this name would like comes to.
+    // The size that the view of this name would like.
     fn new_intrinsic(
         &self,
         name: &str,
@@ -709,7 +710,7 @@ impl Session {
         self.intrinsic_for(view, size, pulls)
     }
 
-    // The view of this name, of which a size is held.
+    // The view of this name, if a size of it is held.
     fn sized(&self, name: &str) -> Result<ViewId, Refusal>
         ensures held { IfOk result (λ id. IsHeldIntrinsic self.now.scene name.now id.0) }
         ensures refused { Refusing (TriedUnsize self.now name.now NoEnd) self.now result }
@@ -723,7 +724,7 @@ impl Session {
         Ok(view)
     }
 
-    // The view of this name, of which this suggestion is held.
+    // The view of this name, if this suggestion of it is held.
     fn suggested(&self, name: &str, word: AttrWord) -> Result<ViewId, Refusal>
         ensures held { IfOk result (λ id. IsHeldSuggestion self.now.scene name.now word id.0) }
         ensures refused { Refusing (TriedRelease self.now name.now word NoEnd) self.now result }
@@ -756,7 +757,7 @@ impl Session {
         Ok(Reply::Certificate(self.scene.certificate()?))
     }
 
-    /// Takes the latest earlier scene back, which takes no memory. The budget is as before.
+    /// Goes back to the latest earlier scene. It needs no memory, and the budget stays.
     pub fn undo(&mut self) -> Result<(), NoEarlier>
         ensures back { OnOk result (PlainStep self.old mean.Undo Done self.new) }
         ensures none { OnErr result (PlainStep self.old mean.Undo reply.NoEarlier self.old) }
@@ -781,7 +782,7 @@ impl Session {
         }
     }
 
-    // The scene's problem, where there is an earlier scene.
+    // The scene's problem, if there is an earlier scene.
     fn undo_problem(&self) -> Result<Problem, Refusal>
         ensures posed { IfOk result (Poses self.now (mean.Other mean.Undo)) }
         ensures refused { Refusing (IsRefused self.now (mean.Other mean.Undo)) self.now result }
@@ -792,7 +793,7 @@ impl Session {
         Ok(self.scene.problem()?)
     }
 
-    // Each run may make so many exchanges.
+    // Sets how many exchanges each run may make.
     fn set_budget(&mut self, exchanges: u64) -> Result<Reply, Refusal>
         ensures accepted { Accepting (PlainStep self.old (mean.Budget exchanges)) self.new result }
         ensures refused { Refusing (PlainStep self.old (mean.Budget exchanges)) self.old result }
@@ -805,7 +806,7 @@ impl Session {
         Ok(Reply::Done)
     }
 
-    // What is found of the scene.
+    // The findings of the scene.
     fn diagnose(&mut self) -> Result<Reply, Refusal>
         ensures accepted { Accepting (Diagnoses self.old) self.new result }
         ensures refused { Refusing (Diagnoses self.old) self.old result }
@@ -817,7 +818,7 @@ impl Session {
         }
     }
 
-    // Whether the window's widths can't be swept from the one to the other.
+    // Whether the window's widths can't be swept between these two.
     fn is_no_sweep(&self, from: Frac, to: Frac) -> bool
         ensures yes { result ≡ true → IsNoSweep self.now.scene from to }
         ensures no { result ≡ false → IsNoSweep self.now.scene from to → ⊥ }
@@ -825,7 +826,7 @@ impl Session {
         from.compare(&to) == Ordering::Greater || !self.scene.has_size()
     }
 
-    // The cause against a sweep of the window's widths from the one to the other.
+    // Whether the window's widths may be swept between these two, or the refusal.
     fn may_sweep(&self, from: Frac, to: Frac) -> Result<(), Refusal>
         ensures free { OnOk result (IsSweepFree self.now.scene from to) }
         ensures refused { Refusing (TriedSweep self.now from to NoAnswer) self.now result }
@@ -839,7 +840,7 @@ impl Session {
         Ok(())
     }
 
-    // What is best for all widths from the one to the other.
+    // Solves for every width between `from` and `to`.
     fn sweep(&self, from: Frac, to: Frac) -> Result<Reply, Refusal>
         ensures accepted { Accepting (TriedSweep self.now from to (Sweeps self.now from to)) self.now result }
         ensures refused { Refusing (TriedSweep self.now from to (Sweeps self.now from to)) self.now result }
@@ -851,7 +852,7 @@ impl Session {
         }
     }
 
-    // The problem that is swept, with the present width.
+    // The problem that is swept, at the present width.
     fn sweep_problem(&self, from: Frac, to: Frac) -> Result<Problem, Refusal>
         ensures posed { IfOk result (Poses self.now (mean.Other (mean.Sweep from to))) }
         ensures refused { Refusing (IsRefused self.now (mean.Other (mean.Sweep from to))) self.now result }
@@ -860,7 +861,7 @@ impl Session {
         Ok(self.scene.problem_here()?)
     }
 
-    // The scene's problem, where so many exchanges may be allowed.
+    // The scene's problem, if so many exchanges are a valid budget.
     fn budget_problem(&self, exchanges: u64) -> Result<Problem, Refusal>
         ensures posed { IfOk result (Poses self.now (mean.Other (mean.Budget exchanges))) }
         ensures refused { Refusing (IsRefused self.now (mean.Other (mean.Budget exchanges))) self.now result }
@@ -1236,10 +1237,10 @@ impl Session {
         }
     }
 
-    /// The problem that a command would solve, with the stays at the present values, of a sweep that of the
-    /// present width; of a command that solves nothing it is the scene's. It is refused by the causes, in
-    /// their order, by which `apply` refuses the command before it solves. It makes the problem, which
-    /// nothing holds, from copies of the rows.
+    /// The problem that a command would solve, with the stays at the present values. For a sweep it is that
+    /// of the present width. For a command that solves nothing it is the scene's. It is refused for the same
+    /// causes, in the same order, as `apply` refuses the command before it solves. The problem has copies of
+    /// the rows, and the session doesn't keep it.
     pub fn step_problem(&self, command: &Command<'_>) -> Result<Problem, Refusal>
         ensures posed { IfOk result (Poses self.now (view command.now)) }
         ensures refused { Refusing (IsRefused self.now (view command.now)) self.now result }
@@ -1273,8 +1274,7 @@ impl Session {
         self.explained(draft)
     }
 
-    /// Does what a line says: the step of the machine. A question changes nothing. After a refusal all is as
-    /// before.
+    /// Does what a line says: the step of the machine. A question or a refused line changes nothing.
     pub fn apply(&mut self, reading: Reading<'_>) -> Result<Reply, Refusal>
         ensures accepted { Accepting (SaidStep self.old (reading_view reading.entry)) self.new result }
         ensures refused { Refusing (SaidStep self.old (reading_view reading.entry)) self.old result }
@@ -1295,8 +1295,8 @@ impl Session {
         &self.scene
     }
 
-    /// Left, top, width and height of a view, in window coordinates. There is none exactly where no view has
-    /// the number.
+    /// Left, top, width and height of a view, in window coordinates. `None` exactly if no view has the
+    /// number.
     pub fn frame(&self, view: ViewId) -> Option<[Frac; 4]>
         ensures some { IfSome result (IsFrameOf self.now.scene view.0) }
         ensures none { IfNone result (view_of self.now.scene.tree.views view.0 ≡ None) }

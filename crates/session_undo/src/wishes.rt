@@ -1,4 +1,4 @@
-// What is wished of a view: the first of its kind, or another constant of one that is held.
+// Suggestions and sizes of views: the first of its kind, or another constant of a held one.
 use constraint_compile::Suggestion;
 use held_items::IntrinsicSize;
 

@@ -1,4 +1,4 @@
-// Views that come to a scene, one or many.
+// New views of a scene, one or many.
 ghost use Rattle.std.specs.Prelude.{◌≡◌, ◌∷◌, ◌++◌, ◌+◌, ◌*◌, ◌<◌, ◌≤◌, length, IfOk, OnOk, OnErr};
 ghost use Rattle.problem_core.specs.declared.limits.TheConstants.{NUMBER_LIMIT};
 ghost use Rattle.view_tree.specs.declared.limits.TheConstants.{ID_LIMIT};
@@ -15,8 +15,7 @@ use std::alloc::Global;
 use version_lists::VersionList;
 use view_tree::{Tree, ViewId};
 
-/// The views with some more. These are so many as `count`, and their numbers go up one by one from
-/// `first_view`.
+/// The views with `count` more, whose numbers go up one by one from `first_view`.
 #[derive(Drop)]
 pub struct NewViews {
     pub tree: Tree,
@@ -33,7 +32,7 @@ pub fn view_attributes(id: u32) -> [u32; 4]
     [attrs.left, attrs.top, attrs.width, attrs.height]
 }
 
-/// The attributes of so many views, the first of which has this number.
+/// The attributes of so many views. The first has this number.
 pub fn attributes_from(alloc: Global, id: u32, count: u32) -> Result<Vec<u32>, OutOfMemory>
     requires { id + count ≤ ID_LIMIT }
     ensures { IfOk result (λ attrs. attrs.items ≡ attributes_from id count) }
@@ -49,8 +48,8 @@ pub fn attributes_from(alloc: Global, id: u32, count: u32) -> Result<Vec<u32>, O
     Ok(attrs)
 }
 
-/// Puts so many views behind the items. The first has these numbers of its first row and its own. The items
-/// of before are the newest earlier version. After want of memory all is as before.
+/// Appends so many views to the items. The first has this number, and its rows begin at this one. The items
+/// before are the newest earlier version. If memory runs out, nothing changes.
 pub fn push_views(
     items: &mut VersionList<Item>,
     first_row: u32,

@@ -1,4 +1,4 @@
-// What is held of which there is one at most.
+// Finds items of which there is at most one.
 ghost use Rattle.std.specs.Prelude.{◌≡◌, false, Some, None, IfSome, IfNone};
 ghost use Rattle.held_items.specs.Items.{has_size, intrinsic_of, size_of, suggestion_of};
 ghost use Rattle.std.specs.List.{list_any};
@@ -11,18 +11,18 @@ use crate::item::{HeldSize, Item, is_size, own_size};
 use constraint_compile::Suggestion;
 use script_text::AttrWord;
 
-/// What there is one of at most.
+/// An item of which there is at most one.
 #[derive(Clone, Copy)]
 pub(crate) enum Lone {
     /// The window's size.
     Size,
-    /// The suggestion of this attribute, as it is written, of the view of this number.
+    /// The suggestion of this attribute, as written, of the view of this number.
     Suggestion(u32, AttrWord),
     /// The size that the view of this number would like.
     Intrinsic(u32),
 }
 
-// Whether the item is what is meant.
+// Whether the item is the wanted one.
 fn is_lone(item: &Item, which: Lone) -> bool
     ensures { result ≡ is_lone which (item_of item.now) }
 {
@@ -33,7 +33,7 @@ fn is_lone(item: &Item, which: Lone) -> bool
     }
 }
 
-/// The place of what is meant, where it is held.
+/// The place of the wanted item, if it is held.
 pub(crate) fn place_of(items: &[Item], which: Lone) -> Option<usize>
     ensures some { IfSome result (λ place. IsFirstPlace (is_lone which) (items_of items.now) place) }
     ensures none { IfNone result (list_any (is_lone which) (items_of items.now) ≡ false) }
@@ -53,7 +53,7 @@ pub fn has_size(items: &[Item]) -> bool
     place_of(items, Lone::Size).is_some()
 }
 
-/// The window's size, where one is held.
+/// The window's size, if one is held.
 pub fn size_of(items: &[Item]) -> Option<HeldSize>
     ensures some { IfSome result (λ s. size_of (items_of items.now) ≡ Some (size_in s)) }
     ensures none { IfNone result (size_of (items_of items.now) ≡ None) }
@@ -62,7 +62,7 @@ pub fn size_of(items: &[Item]) -> Option<HeldSize>
     own_size(&items[place])
 }
 
-/// The suggestion of this attribute of the view, where one is held.
+/// The suggestion of this attribute of the view, if one is held.
 pub fn suggestion_of(items: &[Item], view: u32, word: AttrWord) -> Option<Suggestion>
     ensures { result ≡ suggestion_of view word (items_of items.now) }
 {
@@ -70,7 +70,7 @@ pub fn suggestion_of(items: &[Item], view: u32, word: AttrWord) -> Option<Sugges
     own_suggestion(&items[place])
 }
 
-/// The size that the view would like, where one is held.
+/// The size that the view would like, if one is held.
 pub fn intrinsic_of(items: &[Item], view: u32) -> Option<IntrinsicSize>
     ensures { result ≡ intrinsic_of view (items_of items.now) }
 {

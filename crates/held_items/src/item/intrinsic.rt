@@ -1,4 +1,4 @@
-// The sizes that views would like to have.
+// The sizes that views would like (intrinsic sizes).
 ghost use Rattle.std.specs.Prelude.{◌≡◌, ◌∷◌, ◌++◌, ◌+◌, ◌<◌, ◌≤◌, [], true, false, All};
 ghost use Rattle.std.specs.Prelude.{IfOk, IfSome, IfNone, OnSome, OnOk};
 ghost use Rattle.problem_core.specs.Kept.{IsNumber, IsRow};
@@ -15,14 +15,14 @@ use problem_core::{Rel, Row, Term};
 use std::alloc::Global;
 use view_tree::ViewId;
 
-/// The rank at which a view hugs, where none is written.
+/// The rank at which a view hugs, if none is written.
 pub const USUAL_HUG: u16 = 250;
 
-/// The rank at which a view resists, where none is written.
+/// The rank at which a view resists, if none is written.
 pub const USUAL_RESIST: u16 = 750;
 
 /// The size that a view would like to have: the number of the first of its four rows, the view's number,
-/// width and height, and the ranks at which it resists being smaller and hugs, so isn't larger.
+/// width and height, and the ranks at which it resists (is no smaller) and hugs (is no larger).
 #[derive(Clone, Copy)]
 pub struct IntrinsicSize {
     pub first_row: u32,
@@ -44,7 +44,7 @@ pub fn is_intrinsic(item: &Item, view: u32) -> bool
     }
 }
 
-/// The size that the item is, where it is one of a view.
+/// The size that the item is, if it is one of a view.
 pub(crate) fn own_intrinsic(item: &Item) -> Option<IntrinsicSize>
     ensures { result ≡ own_intrinsic (item_of item.now) }
 {
@@ -73,8 +73,8 @@ pub(crate) fn preferred(item: &Item, again: &IntrinsicSize) -> Option<Item>
     }
 }
 
-// The row by which an attribute is at least this, or at most.
-// It has six parameters: those of a row in which alone the four differ.
+// The row by which an attribute is at least this, or at most. It has six parameters: in these alone the four
+// rows differ.
 fn bound(
     alloc: Global,
     id: u32,
@@ -165,7 +165,7 @@ pub fn intrinsic_changes(size: &IntrinsicSize) -> [Change; 4]
     ]
 }
 
-/// The name of a view's size: the view, a point and `size`.
+/// The name of a view's size: the view, a dot and `size`.
 pub fn intrinsic_name(alloc: Global, view: &str) -> Result<OwnedName, OutOfMemory>
     ensures { IfOk result (λ name. name ≡ intrinsic_name view.now) }
 {

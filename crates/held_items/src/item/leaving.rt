@@ -1,4 +1,4 @@
-// What leaves a scene: a group of lines, a suggestion, a view's size, or a view with all below it.
+// Removals: a group of lines, a suggestion, a view's size, or a view with all views below it.
 ghost use Rattle.std.specs.Prelude.{◌≡◌, ◌∷◌, ◌++◌, ◌<◌, ◌≤◌, length, All, IfOk, OnOk, OnErr, nat_eq};
 ghost use Rattle.std.specs.List.{list_any};
 ghost use Rattle.view_tree.specs.declared.limits.TheConstants.{ID_LIMIT};
@@ -159,8 +159,8 @@ pub fn leaving_attributes(alloc: Global, leaver: &Leaver) -> Result<Vec<u32>, Ou
     }
 }
 
-/// Takes out what leaves. The items of before are the newest earlier version. After want of memory all is as
-/// before.
+/// Takes out what leaves. The items before are the newest earlier version. If memory runs out, nothing
+/// changes.
 pub fn take_leaving_out(items: &mut VersionList<Item>, leaver: &Leaver) -> Result<(), OutOfMemory>
     requires { length items.old.before ≤ EARLIER }
     ensures items { OnOk result

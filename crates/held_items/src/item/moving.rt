@@ -1,4 +1,4 @@
-// The rows that another value of a metric moves.
+// The rows whose constants change with the value of a metric.
 ghost use Rattle.std.specs.Prelude.{◌≡◌, ◌≢◌, ◌<◌, true, false, length, All, AllPairs, Any};
 ghost use Rattle.std.specs.Prelude.{IfOk, IfErr, IfSome, IfNone};
 ghost use Rattle.constraint_compile.specs.Naming.{naming, AreConstantsOf};
@@ -35,8 +35,8 @@ fn item_constants(
     }
 }
 
-/// The constants, for these metrics, of all rows that name the metric, unless such a constant isn't small
-/// after some term.
+/// The constants, for these metrics, of all rows that name the metric. It stops if such a constant isn't
+/// small after some term.
 pub fn constants_naming(
     alloc: Global,
     items: &[Item],
@@ -58,7 +58,7 @@ pub fn constants_naming(
     Ok(constants)
 }
 
-// Appends the change to this constant, unless its row has it. Says whether the constant is near.
+// Appends the change to this constant, unless its row already has it. Returns whether the constant is near.
 fn push_change(
     rows: &[Row],
     constant: &RowConstant,
@@ -87,8 +87,7 @@ fn push_change(
     Ok(true)
 }
 
-/// The changes to those of the constants that their rows don't have. There are none where one is too far from
-/// its row's.
+/// The changes to those constants that their rows don't have yet. `None` if one is too far from its row's.
 pub fn moves(
     alloc: Global,
     rows: &[Row],

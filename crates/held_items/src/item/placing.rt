@@ -1,4 +1,4 @@
-// What is held, with one item more, another one, or one less.
+// Adds, replaces and removes an item.
 ghost use Rattle.std.specs.Prelude.{◌≡◌, ◌∷◌, ◌++◌, ◌<◌, ◌≤◌, [], length, slice_set, OnOk, OnErr};
 ghost use Rattle.std.specs.List.{remove};
 ghost use Rattle.held_items.specs.declared.limits.TheConstants.{EARLIER};
@@ -7,8 +7,7 @@ use crate::item::Item;
 use frac_core::OutOfMemory;
 use version_lists::VersionList;
 
-/// Puts an item behind the others; those of before are the newest earlier version. After want of memory all
-/// is as before.
+/// Appends an item. The items before are the newest earlier version. If memory runs out, nothing changes.
 pub fn push_item(items: &mut VersionList<Item>, item: Item) -> Result<(), OutOfMemory>
     requires { length items.old.before ≤ EARLIER }
     ensures items { OnOk result (items.new.items ≡ items.old.items ++ item ∷ []) }
@@ -25,7 +24,7 @@ pub fn push_item(items: &mut VersionList<Item>, item: Item) -> Result<(), OutOfM
     }
 }
 
-/// Puts an item in the place of one, after a mark. After want of memory the mark is taken back.
+/// Replaces an item, after a mark. If memory runs out, the mark is taken back.
 pub fn put_item(items: &mut VersionList<Item>, place: usize, item: Item) -> Result<(), OutOfMemory>
     requires place { place < length items.old.items }
     requires marked { 0 < length items.old.before }
@@ -42,7 +41,7 @@ pub fn put_item(items: &mut VersionList<Item>, place: usize, item: Item) -> Resu
     }
 }
 
-/// Takes an item out, after a mark. After want of memory the mark is taken back.
+/// Takes an item out, after a mark. If memory runs out, the mark is taken back.
 pub fn remove_item(items: &mut VersionList<Item>, place: usize) -> Result<(), OutOfMemory>
     requires place { place < length items.old.items }
     requires marked { 0 < length items.old.before }

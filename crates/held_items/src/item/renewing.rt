@@ -1,4 +1,4 @@
-// What is held, with other constants in its rows.
+// Held items with other constants in their rows.
 ghost use Rattle.std.specs.Prelude.{◌≡◌, ◌∷◌, ◌≤◌, true, false, length, IfSome, IfNone, OnSome, OnOk, OnErr};
 ghost use Rattle.std.specs.Prelude.{◌<◌, IfOk};
 ghost use Rattle.problem_core.specs.declared.limits.TheConstants.{NUMBER_LIMIT};
@@ -21,7 +21,7 @@ use layout_solver::Change;
 use std::alloc::Global;
 use version_lists::VersionList;
 
-/// What is held already, with other constants. The numbers of its rows and all else are those that it has.
+/// A held item with other constants. Its row numbers and all else stay.
 #[derive(Clone, Copy)]
 pub enum Renewal {
     /// The window's size.
@@ -32,7 +32,7 @@ pub enum Renewal {
     Intrinsic(IntrinsicSize),
 }
 
-// The item with the other constants, if it is what has them.
+// The item with the other constants, if they are for it.
 fn renewed(item: &Item, to: &Renewal) -> Option<Item>
     ensures some { IfSome result (λ new. item_of new ≡ renewed to.now (item_of item.now)) }
     ensures own { OnSome result (is_renewed to.now (item_of item.now) ≡ true) }
@@ -45,8 +45,8 @@ fn renewed(item: &Item, to: &Renewal) -> Option<Item>
     }
 }
 
-/// Gives what is held other constants. The items of before are the newest earlier version. After want of
-/// memory all is as before.
+/// Gives a held item other constants. The items before are the newest earlier version. If memory runs out,
+/// nothing changes.
 pub fn renew(items: &mut VersionList<Item>, to: &Renewal) -> Result<(), OutOfMemory>
     requires { length items.old.before ≤ EARLIER }
     ensures items { OnOk result (items_of items.new.items ≡ renewed_by to.now (items_of items.old.items)) }

@@ -62,7 +62,7 @@ fn pair(alloc: Global, one: Row, other: Row) -> Result<Vec<Row>, OutOfMemory>
     Ok(rows)
 }
 
-/// The rows that the window always has: its left and top are 0, its width and height at least 0.
+/// The window's rows: its left and top are 0, its width and height at least 0.
 pub fn structural_rows(alloc: Global) -> Result<Vec<Row>, OutOfMemory>
     ensures rows { IfOk result (λ rows. rows.items ≡ structural_rows) }
     ensures each { IfOk result (λ rows. All IsRow rows.items) }
@@ -76,7 +76,7 @@ pub fn structural_rows(alloc: Global) -> Result<Vec<Row>, OutOfMemory>
     Ok(rows)
 }
 
-/// The rows of so many views. The first has these numbers of its first row and its own.
+/// The rows of so many views. The first view has this number, and its rows begin at this one.
 pub fn view_rows(
     alloc: Global,
     first_row: u32,
@@ -130,7 +130,7 @@ pub fn suggestion_rows(alloc: Global, suggestion: &Suggestion) -> Result<Vec<Row
     Ok(rows)
 }
 
-/// The rows of a line, whose constants are small for these metrics after each term.
+/// The rows of a line. Its constants are small for these metrics after each term.
 pub fn small_line_rows(
     alloc: Global,
     line: &Compiled,

@@ -1,4 +1,4 @@
-// The suggestions among what is held.
+// The held suggestions.
 ghost use Rattle.std.specs.Prelude.{◌≡◌, true, false, IfOk, IfSome, IfNone, OnSome};
 ghost use Rattle.held_items.specs.Items.{is_suggestion, own_suggestion, suggestion_name, with_constant};
 ghost use Rattle.held_items.specs.Kept.{item_of};
@@ -21,7 +21,7 @@ pub fn is_suggestion(item: &Item, view: u32, word: AttrWord) -> bool
     }
 }
 
-/// The suggestion that the item is, where it is one.
+/// The suggestion that the item is, if it is one.
 pub(crate) fn own_suggestion(item: &Item) -> Option<Suggestion>
     ensures { result ≡ own_suggestion (item_of item.now) }
 {
@@ -50,7 +50,7 @@ pub(crate) fn suggested(item: &Item, again: &Suggestion) -> Option<Item>
     }
 }
 
-/// The name of a suggestion: the view, a point and the attribute.
+/// The name of a suggestion: the view, a dot and the attribute.
 pub fn suggestion_name(alloc: Global, view: &str, word: AttrWord) -> Result<OwnedName, OutOfMemory>
     ensures { IfOk result (λ name. name ≡ suggestion_name view.now word) }
 {

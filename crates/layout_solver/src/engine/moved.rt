@@ -1,4 +1,4 @@
-// The attributes that have other values than in the latest of the earlier layouts.
+// The attributes whose values changed since the latest earlier layout.
 ghost use Rattle.std.specs.Prelude.{◌<◌, length, IfOk};
 
 use crate::engine::Engine;
@@ -8,8 +8,8 @@ impl Engine {
     ghost use Rattle.layout_solver.specs.Layouts.{solution_of};
     ghost use Rattle.layout_solver.specs.Moves.{AreMovedSince, HasValueOf};
 
-    /// The attributes that have another value than in the latest of the earlier layouts, or one in place of
-    /// none, or none in place of one. It takes as long as what has changed since.
+    /// The attributes whose values changed since the latest earlier layout, and those that came or left. The
+    /// time depends only on how much changed.
     pub fn moved(&self) -> Result<Vec<u32>, OutOfMemory>
         requires { 0 < length self.now.earlier }
         ensures { IfOk result

@@ -39,7 +39,7 @@ fn is_at(tree: &Tree, place: usize, view: ViewId) -> bool
     }
 }
 
-/// The value of an attribute, which has a stay.
+/// The value of an attribute that has a stay.
 pub fn value_of(engine: &Engine, attr: u32) -> Frac
     requires { HasStay engine.now.problem.stays attr }
     ensures { result ≡ value_of engine.now.values attr }

@@ -1,4 +1,4 @@
-// The views whose frames are others than in the latest of the earlier scenes.
+// The views whose frames changed since the latest earlier scene.
 ghost use Rattle.std.specs.Prelude.{◌≡◌, [], IfOk, IfSome, IfNone};
 ghost use Rattle.std.specs.List.Sorted.{IsStrictlyIncreasing};
 ghost use Rattle.scenes.specs.Moves.{AreOwners};
@@ -18,7 +18,7 @@ fn owners_of(alloc: Global, attrs: &[u32]) -> Result<Vec<u32>, OutOfMemory>
     Ok(out)
 }
 
-// The numbers of the views that have these attributes, which rise.
+// The numbers of the views that have these attributes, rising.
 fn views_of(alloc: Global, attrs: &[u32]) -> Result<Vec<u32>, OutOfMemory>
     ensures owners { IfOk result (λ out. AreOwners attrs.now out.items) }
     ensures rising { IfOk result (λ out. IsStrictlyIncreasing out.items) }
@@ -33,9 +33,9 @@ impl Scene {
     ghost use Rattle.layout_solver.specs.Moves.{AreMovedSince};
     ghost use Rattle.scenes.specs.Frames.{IsFrameOf};
 
-    /// The numbers of the views whose frames aren't those of the latest of the earlier scenes, rising: of
-    /// those that moved, of those that came, and of those that left. There is no answer exactly where there
-    /// is no earlier scene. It takes as long as what has changed since.
+    /// The numbers of the views whose frames changed since the latest earlier scene, rising: views that
+    /// moved, that came, and that left. `None` exactly if there is no earlier scene. The time depends only on
+    /// how much changed.
     pub fn moved(&self) -> Result<Option<Vec<u32>>, OutOfMemory>
         ensures some { IfOk result (λ moved. IfSome moved
             (λ views. AreMovedSince IsFrameOf self.now.earlier self.now.scene views.items)) }

@@ -15,15 +15,15 @@ use std::mem;
 use version_lists::VersionList;
 use view_tree::Tree;
 
-/// How what comes next is set: the number that its first row takes, and the direction in which it is meant.
+/// The settings of what comes next: the number of its first row, and its direction.
 #[derive(Clone, Copy)]
 pub struct Setting {
     pub next_row: u32,
     pub direction: Direction,
 }
 
-/// What an earlier scene has otherwise than the one after it. Views and metrics that are the same stand in
-/// the scene after it alone.
+/// The parts in which an earlier scene differs from the scene after it. Views and metrics that are the same
+/// are only in the scene after it.
 #[derive(Drop)]
 pub struct Past {
     pub tree: Option<Tree>,
@@ -32,7 +32,7 @@ pub struct Past {
 }
 
 impl Past {
-    /// The scene has the views and metrics of the one after it.
+    /// A scene with the views and metrics of the scene after it.
     pub fn alike(setting: Setting) -> Past
         ensures { result ≡ record { tree = None; metrics = None; setting = setting } }
     {
@@ -94,8 +94,8 @@ fn forget_oldest(items: &mut VersionList<Item>, engine: &mut Engine, pasts: &mut
     engine.forget();
 }
 
-/// Makes what a scene has of its own the newest of the earlier ones, with the newest versions of the items
-/// and the engine. There are so many earlier ones at most, and the oldest of too many is forgotten.
+/// Makes a scene's own parts the newest earlier ones, beside the newest versions of the items and the engine.
+/// At most `most` are kept; the oldest of too many is forgotten.
 pub fn keep(
     items: &mut VersionList<Item>,
     engine: &mut Engine,

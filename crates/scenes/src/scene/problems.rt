@@ -21,15 +21,15 @@ impl Scene {
         self.engine.problem()
     }
 
-    /// The problem of the rows as they are, with the stays at the present values.
+    /// The problem of the present rows, with the stays at the present values.
     pub fn problem_here(&self) -> Result<Problem, OutOfMemory>
         ensures { IfOk result (λ p. p ≡ problem_here self.now.scene) }
     {
         self.engine.posed(Request::Stand)
     }
 
-    /// The changes by which the rows become those for these metrics, of which the one of this name may have
-    /// another value, unless a constant isn't small after some term, or moves too far.
+    /// The changes that turn the rows into those for these metrics, in which only the metric of this name may
+    /// have another value. It stops if a constant isn't small after some term, or moves too far.
     pub fn changes_for(
         &self,
         metrics: &Metrics,

@@ -1,4 +1,4 @@
-// The values of what is held, apart from the engine.
+// The values of all views' attributes, apart from the engine.
 ghost use Rattle.std.specs.Prelude.{◌≡◌, ◌++◌, All, IfOk, OnOk, map};
 ghost use Rattle.problem_core.specs.Gaps.{value_of};
 ghost use Rattle.problem_core.specs.Layout.{HasStay};

@@ -1,4 +1,4 @@
-// The views whose frames are others than in the scene before.
+// The views whose frames changed since the latest earlier scene.
 ghost use Rattle.std.specs.Prelude.{◌≡◌, [], IfOk, IfSome, IfNone};
 ghost use Rattle.std.specs.List.Sorted.{IsStrictlyIncreasing};
 
@@ -9,15 +9,14 @@ impl Session {
     ghost use Rattle.layout_solver.specs.Moves.{AreMovedSince};
     ghost use Rattle.scenes.specs.Frames.{IsFrameOf};
 
-    /// The numbers of the views whose frames aren't those of the scene that `undo` would give back, rising:
-    /// of the views that moved, of those that came, and of those that left, which have no frame now. So right
-    /// after a change that was accepted and was no `undo` these are the frames that it changed, and before an
-    /// `undo` those that it will change; what is refused, or only asks, leaves them as they are. A view `id`
-    /// of these has the frame `frame(ViewId(id))`.
+    /// The numbers of the views whose frames changed since the scene that `undo` would restore, rising: views
+    /// that moved, that came, and that left (these have no frame now). Right after an accepted change other
+    /// than `undo`, these are the frames that it changed. Before an `undo`, these are the frames that it will
+    /// change. Refused lines and questions leave them as they are. A view `id` of these has the frame
+    /// `frame(ViewId(id))`.
     ///
-    /// There is no answer exactly where no earlier scene is kept, as after as many times `undo` as there were
-    /// scenes: then any frame may have changed. It takes as long as what has changed since, whatever is held,
-    /// and its one error is want of memory.
+    /// `None` exactly if no earlier scene is kept, as after `undo` of all of them: then any frame may have
+    /// changed. The time depends only on how much changed, and the only error is that memory runs out.
     pub fn moved(&self) -> Result<Option<Vec<u32>>, OutOfMemory>
         ensures some { IfOk result (λ moved. IfSome moved
             (λ views. AreMovedSince IsFrameOf self.now.earlier self.now.scene views.items)) }
