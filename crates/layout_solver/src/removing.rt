@@ -111,23 +111,6 @@ fn drop_next(alloc: Global, c: &mut Corner, rows: &[u32], gone: usize) -> Result
     }
 }
 
-// Takes the next leaving row out.
-fn take_next(alloc: Global, c: &mut Corner, rows: &[u32], gone: usize) -> Result<(), RequestStop>
-    requires marked { 0 < length c.old.before }
-    requires within { gone < length rows.now }
-    requires held { Any (λ r. r.id ≡ get_or rows.now gone 0) c.old.problem.rows }
-    requires values { NoNegativeValue c.old.problem c.old.marks }
-    requires standing { DoStand c.old.problem c.old.marks }
-    ensures before { c.new.before ≡ c.old.before }
-    ensures gone { IfOk result (λ _. AfterGone rows.now gone c.old
-        (λ p kept. HaveGone p kept (take (gone + 1) rows.now) (take (gone + 1) rows.now) c.new)) }
-    ensures stop { IfErr result
-        (λ stop. AfterGone rows.now gone c.old (λ p kept. IsStillStop p kept rows.now stop)) }
-{
-    free_next(alloc, c, rows, gone)?;
-    drop_next(alloc, c, rows, gone)
-}
-
 // Takes rows out, one by one.
 fn drop_rows(alloc: Global, c: &mut Corner, rows: &[u32]) -> Result<(), RequestStop>
     requires marked { 0 < length c.old.before }
@@ -141,7 +124,8 @@ fn drop_rows(alloc: Global, c: &mut Corner, rows: &[u32]) -> Result<(), RequestS
 {
     c.show_corner(); // for the proof: what a corner keeps
     for gone in 0..rows.len() {
-        take_next(alloc, c, rows, gone)?;
+        free_next(alloc, c, rows, gone)?;
+        drop_next(alloc, c, rows, gone)?;
     }
     Ok(())
 }

@@ -33,27 +33,39 @@ fn add_stays(c: &mut Corner, stays: &[Stay]) -> Result<(), OutOfMemory>
     Ok(())
 }
 
-// Adds these stays and rows to the empty corner, goes on to the best corner, and marks it.
-fn fill(
-    alloc: Global,
-    c: &mut Corner,
-    stays: &[Stay],
-    rows: &[Row],
-    budget: u64,
-) -> Result<(), RunStop>
+// A corner of these stays at their targets and no row, after a mark.
+fn with_stays(alloc: Global, stays: &[Stay]) -> Result<Corner, OutOfMemory>
+    requires whole { IsWhole (as_problem [] stays.now) }
+    ensures problem { IfOk result (λ c. c.problem ≡ as_problem [] stays.now) }
+    ensures marks { IfOk result (λ c. c.marks ≡ []) }
+    ensures before { IfOk result (λ c. 0 < length c.before) }
+    ensures candidates { IfOk result (λ c. c.candidates ≡ []) }
+{
+    let mut corner = Corner::new(alloc)?;
+    corner.mark();
+    match add_stays(&mut corner, stays) {
+        Ok(()) => Ok(corner),
+        Err(OutOfMemory) => {
+            drop(corner); // for the proof: moved on
+            Err(OutOfMemory)
+        }
+    }
+}
+
+// Adds rows to a corner without rows and marks, goes on to the best corner, and marks it.
+fn fill(alloc: Global, c: &mut Corner, rows: &[Row], budget: u64) -> Result<(), RunStop>
     requires marked { 0 < length c.old.before }
-    requires new { c.old.problem ≡ as_problem [] [] }
+    requires new { c.old.problem.rows ≡ [] }
     requires none { c.old.marks ≡ [] }
-    requires whole { IsWhole (as_problem rows.now stays.now) }
-    ensures problem { IfOk result (λ _. c.new.problem ≡ as_problem rows.now stays.now) }
+    requires whole { IsWhole (as_problem rows.now c.old.problem.stays) }
+    ensures problem { IfOk result (λ _. c.new.problem ≡ as_problem rows.now c.old.problem.stays) }
     ensures end { IfOk result (λ _. HasEnded c.new) }
     ensures marked { IfOk result (λ _. IsMarkedHere c.new) }
     ensures path { IfOk result
-        (λ _. HasAdded (as_problem rows.now stays.now) [] rows.now budget c.new.marks) }
-    ensures stop { IfErr result (IsStopOf false (as_problem rows.now stays.now) []
-        (FromAdded (as_problem rows.now stays.now) [] rows.now) budget) }
+        (λ _. HasAdded (as_problem rows.now c.old.problem.stays) [] rows.now budget c.new.marks) }
+    ensures stop { IfErr result (IsStopOf false (as_problem rows.now c.old.problem.stays) []
+        (FromAdded (as_problem rows.now c.old.problem.stays) [] rows.now) budget) }
 {
-    add_stays(c, stays)?;
     c.show_corner(); // for the proof: what a corner keeps
     join(alloc, c, rows, budget)?;
     c.mark();
@@ -75,9 +87,8 @@ pub fn started(alloc: Global, stays: &[Stay], rows: &[Row], budget: u64) -> Resu
     ensures stop { IfErr result (IsStopOf false (as_problem rows.now stays.now) []
         (FromAdded (as_problem rows.now stays.now) [] rows.now) budget) }
 {
-    let mut corner = Corner::new(alloc)?;
-    corner.mark();
-    match fill(alloc, &mut corner, stays, rows, budget) {
+    let mut corner = with_stays(alloc, stays)?;
+    match fill(alloc, &mut corner, rows, budget) {
         Ok(()) => Ok(corner),
         Err(stop) => {
             drop(corner); // for the proof: moved on
@@ -130,24 +141,17 @@ fn join_each(alloc: Global, c: &mut Corner, rows: &[Row], budget: u64) -> Result
     Ok(())
 }
 
-// Adds these stays to the empty corner, then one row after another, goes on to the best corner, and marks it.
-fn fill_by_rows(
-    alloc: Global,
-    c: &mut Corner,
-    stays: &[Stay],
-    rows: &[Row],
-    budget: u64,
-) -> Result<(), RunStop>
+// Adds rows to a corner without rows and marks, one after another, goes on to the best corner, and marks it.
+fn fill_by_rows(alloc: Global, c: &mut Corner, rows: &[Row], budget: u64) -> Result<(), RunStop>
     requires marked { 0 < length c.old.before }
-    requires new { c.old.problem ≡ as_problem [] [] }
+    requires new { c.old.problem.rows ≡ [] }
     requires none { c.old.marks ≡ [] }
-    requires whole { IsWhole (as_problem rows.now stays.now) }
-    ensures problem { IfOk result (λ _. c.new.problem ≡ as_problem rows.now stays.now) }
+    requires whole { IsWhole (as_problem rows.now c.old.problem.stays) }
+    ensures problem { IfOk result (λ _. c.new.problem ≡ as_problem rows.now c.old.problem.stays) }
     ensures end { IfOk result (λ _. HasEnded c.new) }
     ensures marked { IfOk result (λ _. IsMarkedHere c.new) }
-    ensures stop { IfErr result (IsLeadStop stays.now rows.now budget) }
+    ensures stop { IfErr result (IsLeadStop c.old.problem.stays rows.now budget) }
 {
-    add_stays(c, stays)?;
     c.show_corner(); // for the proof: what a corner keeps
     join_each(alloc, c, rows, budget)?;
     settle(alloc, c, budget)?;
@@ -172,9 +176,8 @@ pub fn started_by_rows(
     ensures marked { IfOk result IsMarkedHere }
     ensures stop { IfErr result (IsLeadStop stays.now rows.now budget) }
 {
-    let mut corner = Corner::new(alloc)?;
-    corner.mark();
-    match fill_by_rows(alloc, &mut corner, stays, rows, budget) {
+    let mut corner = with_stays(alloc, stays)?;
+    match fill_by_rows(alloc, &mut corner, rows, budget) {
         Ok(()) => Ok(corner),
         Err(stop) => {
             drop(corner); // for the proof: moved on

@@ -15,7 +15,6 @@ use diagnosis::{DiagnoseStop, Diagnosis};
 use frac_core::{Frac, OutOfMemory};
 use layout_solver::RequestStop;
 use name_tables::{LimitWord, OwnedName};
-use std::alloc::AllocError;
 use sweep_run::{Stretch, SweepQuantity, SweepStop};
 use thiserror::Error;
 use view_tree::TreeStop;
@@ -126,17 +125,6 @@ impl From<OutOfMemory> for Refusal {
     ghost from_gives = { λ _ stop. stop ≡ NoMemory };
 
     fn from(_: OutOfMemory) -> Refusal {
-        Refusal::OutOfMemory
-    }
-}
-
-impl From<AllocError> for Refusal {
-    ghost use Rattle.std.specs.Prelude.{◌≡◌};
-    ghost use Rattle.session_undo.specs.declared.reply.Refusal.TheVariants.{OutOfMemory as NoMemory};
-
-    ghost from_gives = { λ _ stop. stop ≡ NoMemory };
-
-    fn from(_: AllocError) -> Refusal {
         Refusal::OutOfMemory
     }
 }

@@ -1,15 +1,12 @@
-use Rattle.std.proofs.Common.{◌∙◌, sym, subst}
-use Rattle.problem_core.specs.Layout.{Problem}
+use Rattle.std.proofs.Common.{List, ◌++◌, sym, subst}
+use Rattle.problem_core.specs.Layout.{Row}
 use Rattle.problem_core.specs.Kept.{IsWhole}
-use Rattle.corner_laws.specs.Lifts.{with_rows}
-use Rattle.layout_solver.proofs.Starts.FirstStays.{none_negative, stays_whole}
+use Rattle.layout_solver.specs.Starts.{as_problem}
+use Rattle.layout_solver.proofs.Starts.FirstStays.{none_negative}
 use Rattle.layout_solver.proofs.starting.fill.Goals as goal
 
-pub add_stays-requires-clause-whole : goal.add_stays-requires-clause-whole
-add_stays-requires-clause-whole c = stays_whole c.args.rows.now c.args.stays.now c.requires.whole
-
 pub join-requires-clause-whole : goal.join-requires-clause-whole
-join-requires-clause-whole c = subst (λ (q : Problem). IsWhole (with_rows c.args.rows.now q)) (sym c.in_ok-add_stays.ensures.problem) c.requires.whole
+join-requires-clause-whole c = subst (λ (rs : List Row). IsWhole (as_problem (rs ++ c.args.rows.now) c.args.c.now.problem.stays)) (sym c.requires.new) c.requires.whole
 
 pub join-requires-clause-values : goal.join-requires-clause-values
-join-requires-clause-values c = none_negative c.add_stays.new.c.problem c.add_stays.new.c.marks c.show_corner.ensures.kept.corner (c.in_ok-add_stays.ensures.marks ∙ c.requires.none)
+join-requires-clause-values c = none_negative c.args.c.now.problem c.args.c.now.marks c.show_corner.ensures.kept.corner c.requires.none
