@@ -20,16 +20,17 @@
 //! What always holds: if memory runs out, the items don't change; after a change, the items before are the
 //! newest earlier version; and a change of constants names each row whose constant changes.
 //!
-//! In reading order: `limits`, `row_numbers`, `changes` (how far a constant moves); `item` is what is held,
-//! with `rows` (its rows), `suggesting` and `intrinsic` (suggestions, and sizes of views), `new_item` (a new
-//! item with its rows), `finding` (items of which there is at most one), and with what a change does to it:
-//! `placing` (adds, replaces or removes an item), `coming` (views), `leaving`, `moving` (metrics) and
-//! `renewing` (other constants).
+//! In reading order: `own` (a large part on the heap), `limits`, `row_numbers`, `changes` (how far a constant
+//! moves); `item` is what is held, with `rows` (its rows), `suggesting` and `intrinsic` (suggestions, and
+//! sizes of views), `new_item` (a new item with its rows), `finding` (items of which there is at most one),
+//! and with what a change does to it: `placing` (adds, replaces or removes an item), `coming` (views),
+//! `leaving`, `moving` (metrics) and `renewing` (other constants).
 #![tactic(auto)]
 
 mod changes;
 mod item;
 mod limits;
+mod own;
 mod row_numbers;
 
 pub use changes::{fits_after, is_near_size};
@@ -45,4 +46,5 @@ pub use item::rows::{small_line_rows, structural_rows, view_rows};
 pub use item::suggesting::suggestion_name;
 pub use item::{HeldSize, Item, WindowSize, line_count};
 pub use limits::{EARLIER, MOST_ROWS, constants_are_as_said};
+pub use own::Own;
 pub use row_numbers::{FIRST_FREE_ROW, INTRINSIC_ROWS, SIZE_ROWS, VIEW_ROWS};

@@ -20,9 +20,9 @@ use constraint_compile::{
 use format_compile::{compile_format, format_row_count};
 use frac_core::{Frac, OutOfMemory, Stop};
 use held_items::{
-    HeldSize, INTRINSIC_ROWS, IntrinsicSize, Item, Leaver, NewItem, NewViews, Renewal, SIZE_ROWS,
-    USUAL_HUG, USUAL_RESIST, VIEW_ROWS, WindowSize, fits_after, intrinsic_name, is_near_size,
-    small_line_rows, suggestion_name,
+    HeldSize, INTRINSIC_ROWS, IntrinsicSize, Item, Leaver, NewItem, NewViews, Own, Renewal,
+    SIZE_ROWS, USUAL_HUG, USUAL_RESIST, VIEW_ROWS, WindowSize, fits_after, intrinsic_name,
+    is_near_size, small_line_rows, suggestion_name,
 };
 use layout_solver::Engine;
 use name_tables::{LimitWord, Metrics, NAME_LIMIT, OwnedName};
@@ -221,8 +221,9 @@ impl Session {
         match tree.add(name, above) {
             Ok(first_view) => {
                 let _after = tree.len(); // for the proof: what a tree keeps
+                let own = Own::of(self.alloc, tree)?;
                 Ok(NewViews {
-                    tree,
+                    tree: own,
                     first_view,
                     count: 1,
                 })
@@ -273,8 +274,9 @@ impl Session {
             unreachable!()
         };
         let first_view = first.id;
+        let own = Own::of(self.alloc, tree)?;
         Ok(NewViews {
-            tree,
+            tree: own,
             first_view,
             count,
         })
@@ -298,7 +300,7 @@ impl Session {
     }
 
     // The metrics with this value of one, if there is room for it.
-    fn metrics_with(&self, name: &str, value: Frac) -> Result<Option<Metrics>, OutOfMemory>
+    fn metrics_with(&self, name: &str, value: Frac) -> Result<Option<Own<Metrics>>, OutOfMemory>
         ensures made { IfOk result (λ o. IfSome o
             (λ metrics. metrics ≡ metrics_with self.now.scene.metrics name.now value)) }
         ensures room { IfOk result
@@ -309,7 +311,7 @@ impl Session {
         if !put_metric(&mut metrics, name, value)? {
             return Ok(None);
         }
-        Ok(Some(metrics))
+        Ok(Some(Own::of(self.alloc, metrics)?))
     }
 
     // The metrics with this one new or changed, and the changes of constants for it.
@@ -326,7 +328,7 @@ impl Session {
         let Some(metrics) = self.metrics_with(name, value)? else {
             return Err(Refusal::Limit(LimitWord::Metrics));
         };
-        match self.scene.changes_for(&metrics, name) {
+        match self.scene.changes_for(metrics.get(), name) {
             Ok(to) => Ok(NewMetrics { metrics, to }),
             Err(Stop::Refused(_)) => Err(Refusal::Limit(LimitWord::Constant)),
             Err(Stop::OutOfMemory) => Err(Refusal::OutOfMemory),
@@ -373,7 +375,7 @@ impl Session {
             return Err(Refusal::Limit(word));
         }
         let group = OwnedName::of(self.alloc, group.as_bytes())?;
-        let item = Item::OfLine { group, line };
+        let item = Own::of(self.alloc, Item::OfLine { group, line })?;
         Ok(NewItem { item, rows })
     }
 

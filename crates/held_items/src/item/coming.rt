@@ -9,6 +9,7 @@ ghost use Rattle.held_items.specs.declared.limits.TheConstants.{EARLIER};
 ghost use Rattle.held_items.specs.declared.row_numbers.TheConstants.{VIEW_ROWS};
 
 use crate::item::Item;
+use crate::own::Own;
 use crate::row_numbers::VIEW_ROWS;
 use frac_core::OutOfMemory;
 use std::alloc::Global;
@@ -18,7 +19,7 @@ use view_tree::{Tree, ViewId};
 /// The views with `count` more, whose numbers go up one by one from `first_view`.
 #[derive(Drop)]
 pub struct NewViews {
-    pub tree: Tree,
+    pub tree: Own<Tree>,
     pub first_view: ViewId,
     pub count: u32,
 }

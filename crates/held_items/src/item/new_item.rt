@@ -7,6 +7,7 @@ ghost use Rattle.constraint_compile.specs.Suggestions.{IsSuggestion, suggested_r
 use crate::item::intrinsic::{IntrinsicSize, intrinsic_rows};
 use crate::item::rows::{size_rows, suggestion_rows};
 use crate::item::{Item, WindowSize};
+use crate::own::Own;
 use constraint_compile::Suggestion;
 use frac_core::OutOfMemory;
 use problem_core::Row;
@@ -15,7 +16,7 @@ use std::alloc::Global;
 /// A new item with its rows.
 #[derive(Drop)]
 pub struct NewItem {
-    pub item: Item,
+    pub item: Own<Item>,
     pub rows: Vec<Row>,
 }
 
@@ -38,6 +39,7 @@ impl NewItem {
             width: size.width,
             height: size.height,
         };
+        let item = Own::of(alloc, item)?;
         Ok(NewItem { item, rows })
     }
 
@@ -49,7 +51,7 @@ impl NewItem {
         ensures each { IfOk result (λ it. All IsRow it.rows.items) }
     {
         let rows = suggestion_rows(alloc, &new)?;
-        let item = Item::Suggested(new);
+        let item = Own::of(alloc, Item::Suggested(new))?;
         Ok(NewItem { item, rows })
     }
 
@@ -61,7 +63,7 @@ impl NewItem {
         ensures each { IfOk result (λ it. All IsRow it.rows.items) }
     {
         let rows = intrinsic_rows(alloc, &new)?;
-        let item = Item::Intrinsic(new);
+        let item = Own::of(alloc, Item::Intrinsic(new))?;
         Ok(NewItem { item, rows })
     }
 }

@@ -1,5 +1,5 @@
 // The changes that a scene can make.
-use held_items::{Leaver, NewItem, NewViews, Renewal};
+use held_items::{Leaver, NewItem, NewViews, Own, Renewal};
 use layout_solver::Change;
 use name_tables::Metrics;
 use script_text::Direction;
@@ -8,7 +8,7 @@ use view_tree::ViewId;
 /// Metrics with one new or changed value, and the changes to the constants that name it.
 #[derive(Drop)]
 pub struct NewMetrics {
-    pub metrics: Metrics,
+    pub metrics: Own<Metrics>,
     pub to: Vec<Change>,
 }
 

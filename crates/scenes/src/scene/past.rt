@@ -6,7 +6,7 @@ ghost use Rattle.layout_solver.specs.Layouts.{solution_of};
 ghost use Rattle.scenes.specs.Kept.{AreAlike, own_or};
 ghost use Rattle.held_items.specs.declared.limits.TheConstants.{EARLIER};
 
-use held_items::Item;
+use held_items::{Item, Own};
 use layout_solver::Engine;
 use name_tables::Metrics;
 use script_text::Direction;
@@ -26,8 +26,8 @@ pub struct Setting {
 /// are only in the scene after it.
 #[derive(Drop)]
 pub struct Past {
-    pub tree: Option<Tree>,
-    pub metrics: Option<Metrics>,
+    pub tree: Option<Own<Tree>>,
+    pub metrics: Option<Own<Metrics>>,
     pub setting: Setting,
 }
 
@@ -45,12 +45,12 @@ impl Past {
 }
 
 // Swaps a part with `own`, if that has one.
-fn exchange<T: Drop>(own: &mut Option<T>, part: &mut T)
+fn exchange<T: Drop>(own: &mut Option<Own<T>>, part: &mut T)
     ensures there { part.new ≡ own_or own.old part.old }
     ensures back { own_or own.new part.new ≡ part.old }
 {
     if let Some(own) = own {
-        mem::swap(own, part);
+        own.swap(part);
     }
 }
 

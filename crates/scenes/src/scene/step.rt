@@ -27,13 +27,14 @@ use crate::scene::past::{Past, keep, put};
 use conflict_core::{CoreStop, Found, core_of};
 use frac_core::OutOfMemory;
 use held_items::{
-    Item, Leaver, NewItem, NewViews, Renewal, VIEW_ROWS, attributes_from, changes_of,
+    Item, Leaver, NewItem, NewViews, Own, Renewal, VIEW_ROWS, attributes_from, changes_of,
     leaving_attributes, leaving_numbers, push_item, push_views, renew, take_leaving_out,
     view_attributes, view_rows,
 };
 use layout_solver::{Engine, Request, RequestStop};
 use problem_core::Problem;
 use script_text::Direction;
+use std::alloc::Global;
 use version_lists::VersionList;
 use view_tree::{Tree, ViewId};
 
@@ -43,7 +44,7 @@ pub enum Holding {
     /// Adds `count` views. The first has the number `id`, and its rows begin at `first_row`.
     Views { first_row: u32, id: u32, count: u32 },
     /// Adds an item.
-    More(Item),
+    More(Own<Item>),
     /// Changes the constants of an item.
     Renewed(Renewal),
     /// Removes items.
@@ -74,7 +75,7 @@ fn hold(items: &mut VersionList<Item>, holding: Holding) -> Result<(), OutOfMemo
             id,
             count,
         } => push_views(items, first_row, id, count),
-        Holding::More(item) => push_item(items, item),
+        Holding::More(item) => push_item(items, item.into_inner()),
         Holding::Renewed(to) => renew(items, &to),
         Holding::Out(leaver) => take_leaving_out(items, &leaver),
         Holding::Same => {
@@ -121,22 +122,22 @@ fn run(
 }
 
 // The tree without these views: a view and all views below it.
-fn tree_without(tree: &Tree, gone: &[u32]) -> Result<Tree, OutOfMemory>
+fn tree_without(alloc: Global, tree: &Tree, gone: &[u32]) -> Result<Own<Tree>, OutOfMemory>
     requires { (root : ℕ) × (root ≢ 0) × AreGoing tree.now.views root gone.now }
     ensures { IfOk result (λ left. left ≡ without tree.now gone.now) }
 {
     let mut left = tree.copy()?;
     left.drop_views(gone);
-    Ok(left)
+    Own::of(alloc, left)
 }
 
 // The tree without the views that leave, or `None` if no view leaves.
-fn tree_left(tree: &Tree, leaver: &Leaver) -> Result<Option<Tree>, OutOfMemory>
+fn tree_left(alloc: Global, tree: &Tree, leaver: &Leaver) -> Result<Option<Own<Tree>>, OutOfMemory>
     requires { MayLeave tree.now.views leaver.now }
     ensures { IfOk result (λ own. own ≡ tree_left tree.now leaver.now) }
 {
     match leaver {
-        Leaver::Views(gone) => Ok(Some(tree_without(tree, gone)?)),
+        Leaver::Views(gone) => Ok(Some(tree_without(alloc, tree, gone)?)),
         Leaver::Group(_) | Leaver::Suggestion(..) | Leaver::Intrinsic(_) => Ok(None),
     }
 }
@@ -242,7 +243,7 @@ impl Scene {
         self.engine.show_layout(); // for the proof: what an engine keeps
         let _count = self.tree.len(); // for the proof: what a tree keeps
         let request = self.leaving_request(&leaver)?;
-        let tree = tree_left(&self.tree, &leaver)?;
+        let tree = tree_left(self.alloc, &self.tree, &leaver)?;
         let mut step = self.plain_step(request, Holding::Out(leaver));
         step.own.tree = tree;
         Ok(step)

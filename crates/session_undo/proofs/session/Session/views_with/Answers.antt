@@ -26,11 +26,11 @@ returns-in-Err-Limit-clause-refused c =
     rw (c.in-Err-Limit.field-0-is, c.in_ok-tree.ensures, c.tree-views.ensures) at c.in-Err-Limit.ensures.refused in
     rw (c.in-Err-Limit.field-0-is, ← c.self.view_is) (c.in-Err-Limit.word, stop, (refl, refl))
 
-pub returns-in-Ok-clause-made : goal.returns-in-Ok-clause-made
-returns-in-Ok-clause-made c =
+pub returns-in_ok-own-in-Ok-clause-made : goal.returns-in_ok-own-in-Ok-clause-made
+returns-in_ok-own-in-Ok-clause-made c =
     let added = rw (c.in_ok-tree.ensures, c.tree-views.ensures) at c.in-Ok.ensures.added in
     let id_is = rw (c.in_ok-tree.ensures, c.tree-views.ensures) at c.in-Ok.ensures.id in
-    rw (← c.self.view_is) (record {
+    rw (c.in_ok-own-in-Ok.ensures, ← c.self.view_is) (record {
       fresh = rw (c.in_ok-tree.ensures, c.tree-views.ensures) at c.in-Ok.ensures.new;
       tree_is = added;
       id_is = id_is;
