@@ -1,22 +1,22 @@
-// What the program's words ask for.
+// The program's arguments.
 use frac_core::OutOfMemory;
 use std::env::Env;
 use std::{env, io};
 
-/// What is asked for.
+/// What the arguments ask for.
 #[derive(Clone, Copy)]
 pub enum Asked {
-    /// To tell people of each refused line.
+    /// To explain each refused line to people.
     People,
-    /// To tell of it by an object a line.
+    /// To write each finding as a JSON object on a line.
     Json,
-    /// To print the problem of the line of this number, counted from 1; 0 where the number isn't there yet.
+    /// To print the problem of the line of this number, counted from 1; 0 until the number is read.
     Problem(usize),
-    /// Something else.
+    /// Anything else.
     Other,
 }
 
-// What is asked for by one word more.
+// What is asked for after one more argument.
 fn asked_by(asked: Asked, word: &str) -> Asked {
     match (asked, word) {
         (Asked::People, "--json") => Asked::Json,
@@ -29,7 +29,7 @@ fn asked_by(asked: Asked, word: &str) -> Asked {
     }
 }
 
-/// What the words after the program's name ask for. Words that are no text ask for something else.
+/// What the arguments ask for. Arguments that aren't UTF-8 ask for something else.
 pub fn asked_for(rt: &(impl Env + AllocGlobal)) -> Result<Asked, OutOfMemory> {
     let mut asked = Asked::People;
     match env::args(rt) {

@@ -1,11 +1,7 @@
-// The lines of a script, answered, and what is said of them.
+// Answers the lines of a script, and explains those that are refused.
 ghost use Rattle.std.specs.Prelude.{⊤};
 
 use crate::asked::Asked;
-use crate::finding::Finding;
-use crate::owners::Owners;
-use crate::problem::put_problem;
-use crate::telling::Telling;
 use edge_io::{LINE_LIMIT, Piece, Sink, StdSource, put_all};
 use frac_core::OutOfMemory;
 use layout_cli::{Responder, Status};
@@ -15,23 +11,25 @@ use reply_texts::reply_text;
 use script_text::Version;
 use session_undo::Refusal;
 use std::alloc::Global;
+use tell_finding::Finding;
 use tell_mend::{Reader, line_at};
+use tell_refusals::{Owners, Telling, put_problem};
 
-// What answers the lines of a script, and says what there is to be said of them.
+// Answers the lines of a script and explains them.
 #[derive(Drop)]
 struct Teller<'s> {
     responder: Responder,
     owners: Owners,
     asked: Asked,
     script: &'s [u8],
-    // The number of the latest line, how many had a reply, and how many were refused.
+    // The number of the latest line, how many lines got a reply, and how many were refused.
     number: usize,
     count: usize,
     refused: usize,
-    // Whether the line came whose problem is asked for, and has one.
+    // Whether the line came whose problem is asked for, and whether that was printed.
     is_found: bool,
     is_printed: bool,
-    // The latest reply, and what is said of it.
+    // The latest reply, and its explanation.
     reply: Vec<u8>,
     out: Vec<u8>,
 }
@@ -39,7 +37,7 @@ struct Teller<'s> {
 const NO_LINE: &[u8] = b"no problem: the script has no line of this number that gets a reply\n";
 
 impl<'s> Teller<'s> {
-    // No line came.
+    // Before the first line.
     fn new(alloc: Global, asked: Asked, script: &'s [u8]) -> Result<Teller<'s>, OutOfMemory> {
         let responder = Responder::new(alloc)?;
         let next = responder.session().state().next_row();
@@ -58,7 +56,7 @@ impl<'s> Teller<'s> {
         })
     }
 
-    // Answers a line, and says whether the reply is a refusal.
+    // Answers a line. Returns whether it is refused.
     fn reply_to(&mut self, line: &[u8]) -> Result<bool, OutOfMemory> {
         self.reply.clear();
         if line.len() <= LINE_LIMIT {
@@ -70,10 +68,10 @@ impl<'s> Teller<'s> {
         Ok(true)
     }
 
-    // Says what there is to be said of a line that was answered.
+    // Explains a line that was answered.
     fn tell(&mut self, line: &[u8]) -> Result<(), OutOfMemory> {
         let session = self.responder.session();
-        let mut told = Telling {
+        let told = Telling {
             reader: Reader::new(*self.out.allocator(), session.version()),
             finding: Finding::new(*self.out.allocator()),
             session,
@@ -83,11 +81,10 @@ impl<'s> Teller<'s> {
             line,
             reply: &self.reply,
         };
-        told.set_all();
-        told.put(self.asked, &mut self.out)
+        told.explain(matches!(self.asked, Asked::Json), &mut self.out)
     }
 
-    // Prints the problem of a line that was answered, or why there is none.
+    // Prints the problem of a line that was answered, or why it has none.
     fn print(&mut self, line: &[u8]) -> Result<(), OutOfMemory> {
         let session = self.responder.session();
         let mut reader = Reader::new(*self.out.allocator(), session.version());
@@ -96,7 +93,16 @@ impl<'s> Teller<'s> {
         reader.done()
     }
 
-    // Does with a line what is asked for. One that gets no reply has nothing to tell.
+    // Does what is asked for with a line that was answered.
+    fn show(&mut self, line: &[u8]) -> Result<(), OutOfMemory> {
+        match self.asked {
+            Asked::Problem(wanted) if wanted == self.number => self.print(line),
+            Asked::Problem(_) => Ok(()),
+            _ => self.tell(line),
+        }
+    }
+
+    // Answers a line, and does what is asked for. A line without a reply needs nothing more.
     fn take(&mut self, line: &[u8]) -> Result<(), OutOfMemory> {
         let is_refused = self.reply_to(line)?;
         if self.reply.is_empty() {
@@ -104,16 +110,12 @@ impl<'s> Teller<'s> {
         }
         self.count = self.count.saturating_add(1);
         self.refused = self.refused.saturating_add(is_refused as usize);
-        match self.asked {
-            Asked::Problem(wanted) if wanted == self.number => self.print(line)?,
-            Asked::Problem(_) => (),
-            _ => self.tell(line)?,
-        }
+        self.show(line)?;
         let next = self.responder.session().state().next_row();
         self.owners.take(self.number, next)
     }
 
-    // Puts what there is to be said when all lines are answered: to people how many were refused.
+    // Puts the last line of the output: for people the number of refused lines.
     fn put_end(&mut self) -> Result<(), OutOfMemory> {
         let mut reader = Reader::new(*self.out.allocator(), Version::One);
         self.out.clear();
@@ -130,7 +132,7 @@ impl<'s> Teller<'s> {
         reader.done()
     }
 
-    // Ends with how many lines were refused, and gives the status.
+    // Writes the last line of the output, and returns the status.
     fn end<K: Sink>(&mut self, sink: &mut K) -> Status {
         if self.put_end().is_err() {
             return Status::OutOfMemory;
@@ -146,7 +148,7 @@ impl<'s> Teller<'s> {
         }
     }
 
-    // Does with each line what is asked for, and gives the status.
+    // Takes each line of the script, and returns the status.
     fn run<K: Sink>(&mut self, alloc: Global, sink: &mut K) -> Status {
         let mut source = StdSource::new(self.script);
         match answer_script(alloc, self, &mut source, sink) {
@@ -174,7 +176,7 @@ impl Answerer for Teller<'_> {
     }
 }
 
-/// Does with a script what is asked for, and gives the status.
+/// Does with a script what is asked for, and returns the status.
 pub fn tell<K: Sink>(
     alloc: Global,
     asked: Asked,

@@ -1,27 +1,27 @@
-// What may stand where a line leaves the grammar, by asking the grammar's reader of each sign and letter.
+// Finds what may come where a line leaves the grammar: asks the grammar's reader about each sign and letter.
 use crate::bytes::{cut, ends_in_word, word_start};
 use crate::reader::Reader;
 
-// More than the letters that are tried where all words of the grammar may stand.
+// More than the letters tried if any word of the grammar may come.
 const TRIALS: usize = 20_000;
 
-// No sign of the grammar: it goes on only where any text may.
+// No sign of the grammar: a line goes on with it only if it may with any text.
 const ANY: &[u8] = b"\x01";
 
-// Appends a word of the grammar, in quotes.
+// Appends a word of the grammar in quotes.
 fn put_word(reader: &mut Reader, out: &mut Vec<u8>, lead: &[u8], word: &[u8]) {
     reader.put_all(out, &[lead, b"`", word, b"`\n"]);
 }
 
-// Whether the letter goes on.
+// Whether a line may go on with the letter.
 fn takes_letter(reader: &mut Reader, front: &mut Vec<u8>, letter: u8) -> bool {
     letter.is_ascii_alphabetic() && reader.takes(front, &[letter])
 }
 
-// Appends the words of the grammar that begin with what the front has behind `start`, and have more.
+// Appends the words of the grammar that begin with the front's text from `start` on and are longer.
 //
-// The front grows and shrinks letter by letter: each that goes on is gone into, and where none does a word is
-// whole.
+// This is a depth-first search. The front grows by each letter that a line may go on with. If there is none,
+// the word is whole, and the front shrinks by a letter.
 fn put_words(
     reader: &mut Reader,
     front: &mut Vec<u8>,
@@ -53,7 +53,7 @@ fn put_words(
     front.truncate(floor);
 }
 
-// Appends a sign in quotes; with the `=` that a relation goes on with.
+// Appends a sign in quotes, with the `=` that completes a relation.
 fn put_sign(reader: &mut Reader, front: &mut Vec<u8>, sign: u8, out: &mut Vec<u8>) {
     let pair = [sign, b'='];
     if b"<=>".contains(&sign) && reader.takes(front, &pair) {
@@ -63,7 +63,7 @@ fn put_sign(reader: &mut Reader, front: &mut Vec<u8>, sign: u8, out: &mut Vec<u8
     }
 }
 
-// Appends the signs that go on.
+// Appends the signs that a line may go on with.
 fn put_signs(reader: &mut Reader, front: &mut Vec<u8>, out: &mut Vec<u8>) {
     for sign in 33..127u8 {
         if !sign.is_ascii_alphanumeric() && sign != b'_' {
@@ -72,7 +72,7 @@ fn put_signs(reader: &mut Reader, front: &mut Vec<u8>, out: &mut Vec<u8>) {
     }
 }
 
-// Appends how the word at the end of the front goes on.
+// Appends how the word at the end of the front may go on.
 fn put_rest(reader: &mut Reader, front: &mut Vec<u8>, out: &mut Vec<u8>) {
     if reader.takes(front, b"_") {
         return reader.put(out, b"more of the name\n");
@@ -84,7 +84,7 @@ fn put_rest(reader: &mut Reader, front: &mut Vec<u8>, out: &mut Vec<u8>) {
     put_words(reader, front, start, b"", out);
 }
 
-// Appends what may begin behind the front.
+// Appends the names, numbers and words that may follow the front.
 fn put_starts(reader: &mut Reader, front: &mut Vec<u8>, lead: &[u8], out: &mut Vec<u8>) {
     let is_name = reader.takes(front, b"_");
     if is_name {
@@ -99,7 +99,7 @@ fn put_starts(reader: &mut Reader, front: &mut Vec<u8>, lead: &[u8], out: &mut V
     }
 }
 
-// Appends what may stand behind the front, where that ends in a word, and behind a blank.
+// Appends what may follow a front that ends in a word, and what may follow it after a blank.
 fn put_behind_word(reader: &mut Reader, front: &mut Vec<u8>, out: &mut Vec<u8>) {
     put_rest(reader, front, out);
     if !reader.takes(front, b" ") {
@@ -114,7 +114,7 @@ fn put_behind_word(reader: &mut Reader, front: &mut Vec<u8>, out: &mut Vec<u8>) 
     front.pop();
 }
 
-// Appends what may stand behind the front.
+// Appends what may follow the front.
 fn put_expected(reader: &mut Reader, front: &mut Vec<u8>, out: &mut Vec<u8>) {
     if reader.takes(front, ANY) {
         return reader.put(out, b"any text\n");
@@ -130,8 +130,8 @@ fn put_expected(reader: &mut Reader, front: &mut Vec<u8>, out: &mut Vec<u8>) {
     }
 }
 
-/// What may stand at this place of the line, each in a line of its own: signs and words of the grammar in
-/// quotes, and kinds of words.
+/// What may come at this place of the line, one on each line: signs and words of the grammar in quotes, and
+/// kinds of words.
 pub fn expected(reader: &mut Reader, line: &[u8], at: usize) -> Vec<u8> {
     let mut out = Vec::new(reader.alloc());
     let mut front = Vec::new(reader.alloc());

@@ -1,21 +1,23 @@
-// The usual mistakes in the grammar of a line, and what cures each: three texts, whose lines are rows. A
-// table of constants costs its function's proof the square of its length; a text costs the same however long
-// it is.
+// The usual mistakes in the grammar of a line, and their cures: three texts, whose lines are rows. The proof
+// of a function with a table of constants takes the square of the table's length, but a text costs the same
+// however long it is.
 //
-// A row is BEFORE~THERE~EDIT~WORDS: what stands before the place where the line leaves the grammar and what
-// stands there, both of which the edit takes away; what is done, by `mending`; and what is said of it. A row
-// without words has those of the row above.
+// A row is BEFORE~THERE~EDIT~WORDS. BEFORE and THERE are the texts to the left and to the right of the place
+// where the line leaves the grammar; both are removed. EDIT is the change, made by `mending`, and WORDS
+// describe it. A row without words has those of the row above.
 //
-// An edit is CONDITION=TEXT, where the condition may be left out: this text stands there. Or it is a word:
-// `rest` (nothing stands there and behind it), `unit` (no name of a point stands behind the number), `wrap`
-// (what stands there up to the next sign stands in parentheses), `group` (a group's name stands behind the
-// first word), `hyphens` (a `_` stands for each `-` of the group's name), `relation` (a command and a group's
-// name stand in front), and `times` with a text: the number behind the sign stands behind the text and in
-// front of the attribute.
+// An edit is CONDITION=TEXT, or =TEXT without a condition: put the text there. Or it is a word:
+// - `rest`: remove the rest of the line.
+// - `unit`: remove the unit after a number, if it is a name of points.
+// - `wrap`: put the text up to the next sign in parentheses.
+// - `group`: put a group's name after the first word.
+// - `hyphens`: put `_` for each `-` of the group's name.
+// - `relation`: put a command and a group's name in front.
+// - `times` and a text: move the number after the sign in front of the attribute, after the text.
 
 use crate::bytes::parted;
 
-/// A mistake, and what cures it.
+/// A mistake and its cure.
 #[derive(Clone, Copy)]
 pub struct Cure {
     pub before: &'static [u8],
@@ -25,7 +27,7 @@ pub struct Cure {
 }
 
 impl Cure {
-    /// The cure of a row, below a row with these words.
+    /// The cure in a row. `above` are the words of the row above it.
     pub fn of(row: &'static [u8], above: &'static [u8]) -> Cure {
         let (before, rest) = parted(row, b'~');
         let (there, rest) = parted(rest, b'~');
@@ -40,7 +42,7 @@ impl Cure {
     }
 }
 
-/// Mistakes that count before a word that is only like another: of alignments, sizes and commands.
+/// Mistakes tried before similar words: of alignments, sizes and commands.
 pub const FIRST_CURES: &str = "\
 center~ H~=centerY H~views beside each other are centred by `centerY`, views below each other by `centerX`
 center~ V~=centerX V~
@@ -58,10 +60,10 @@ s~et ~=metric ~a number with a name is a `metric`
 ~.width~=~in a format a view's name alone stands for its size
 ~.height~=~";
 
-/// Of two that cure as much the one counts that stands first: mistakes of groups and relations; of numbers;
-/// signs that look like another one; quotes and signs that aren't seen; comments, signs that stand nowhere
-/// and decimal points; mistakes of attributes, of names and priorities, of formats and spaces; signs that are
-/// missing.
+/// The first of two cures that cure as much is taken. In order: mistakes of groups and relations, and of
+/// numbers; signs that look like another one; quotes and invisible signs; comments, signs that are never
+/// right and decimal points; mistakes of attributes, of names and priorities, of formats and spaces; missing
+/// signs.
 pub const CURES: &str = "\
 ~\u{feff}~=~the file begins with a byte order mark: save it without
 ~~group~a group's name of your choice stands behind the first word
@@ -169,7 +171,7 @@ in~side~=in~
 ~~=)~a `)` is missing
  ~~= @~a priority stands behind `@`";
 
-/// Mistakes that nobody can mend but who wrote the line, with a condition in place of an edit.
+/// Mistakes that only the line's author can mend. The third column is a condition.
 pub const ADVICE: &str = "\
 remove ~*~~one group is removed by a line: write a line for each
 tree~~~a tree is JSON, as {\"name\":\"card\",\"children\":[{\"name\":\"title\"}]}

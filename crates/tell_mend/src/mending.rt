@@ -1,4 +1,4 @@
-// A line that leaves the grammar, mended. What is put forward has been read by the grammar's reader.
+// Mends a line that leaves the grammar. A line that is suggested has been read by the grammar's reader.
 use crate::asking::expected;
 use crate::bytes::{before_sign, cut, ends_in_digit, ends_in_word, number_len, parted, word_start};
 use crate::cures::{ADVICE, CURES, Cure, FIRST_CURES};
@@ -9,12 +9,12 @@ use script_text::is_version_line;
 use span_text::pieces::{begins_with_word, word_len};
 use span_text::{first_word, lines};
 
-// How many mistakes of one line are mended.
+// The most mistakes of a line that are mended.
 const ROUNDS: usize = 6;
 
 const LIKE: &[u8] = b"a word is written otherwise; capital letters count";
 
-// A text, and where it leaves the grammar: what stands before and behind the place.
+// A text, and its parts to the left and to the right of a mistake.
 #[derive(Clone, Copy)]
 struct Sick<'a> {
     text: &'a [u8],
@@ -22,7 +22,7 @@ struct Sick<'a> {
     rest: &'a [u8],
 }
 
-// The byte that the text begins with; 0 where it is empty.
+// The first byte; 0 if the text is empty.
 fn first_byte(text: &[u8]) -> u8 {
     match text {
         [b, ..] => *b,
@@ -30,20 +30,29 @@ fn first_byte(text: &[u8]) -> u8 {
     }
 }
 
-// The text in front of the word that it ends with.
+// The text before the word at its end.
 fn before_word(text: &[u8]) -> &[u8] {
     cut(text, word_start(text)).0
 }
 
-// Whether a condition on a number holds.
-fn holds_of_number(condition: &[u8], front: &[u8], rest: &[u8]) -> bool {
+// Whether a condition holds that wants a number to the left. `front` ends with a digit.
+fn holds_after_number(condition: &[u8], front: &[u8], rest: &[u8]) -> bool {
     match condition {
-        b"behind" => ends_in_digit(front),
-        b"digits" => ends_in_digit(front) && first_byte(rest).is_ascii_digit(),
-        b"exponent" => ends_in_digit(front) && first_byte(rest).is_ascii_alphabetic(),
-        b"number" => ends_in_digit(front) && !rest.starts_with(b"."),
-        b"numbers" => ends_in_digit(front) && number_len(rest) > 0,
-        b"fraction" => ends_in_digit(front) && before_word(front).ends_with(b"/"),
+        b"behind" => true,
+        b"digits" => first_byte(rest).is_ascii_digit(),
+        b"exponent" => first_byte(rest).is_ascii_alphabetic(),
+        b"number" => !rest.starts_with(b"."),
+        b"numbers" => number_len(rest) > 0,
+        b"fraction" => before_word(front).ends_with(b"/"),
+        _ => false,
+    }
+}
+
+// Whether a condition holds that wants a kind of text to the right.
+fn holds_before(condition: &[u8], rest: &[u8]) -> bool {
+    match condition {
+        b"letter" => first_byte(rest).is_ascii_alphabetic(),
+        b"foreign" => !first_byte(rest).is_ascii(),
         b"share" => cut(rest, number_len(rest)).1.starts_with(b"%"),
         _ => false,
     }
@@ -55,45 +64,44 @@ fn holds(condition: &[u8], sick: Sick<'_>) -> bool {
     match condition {
         b"" => true,
         b"name" => ends_in_word(front) && begins_with_word(rest),
-        b"letter" => first_byte(rest).is_ascii_alphabetic(),
         b"format" => begins_with_word(rest) && matches!(word_of(text).0, Word::Vfl),
         b"other" => !matches!(word_of(text).0, Word::Constrain),
-        b"foreign" => !first_byte(rest).is_ascii(),
-        _ => holds_of_number(condition, front, rest),
+        _ if holds_before(condition, rest) => true,
+        _ => ends_in_digit(front) && holds_after_number(condition, front, rest),
     }
 }
 
-// Puts a line together. It is an edit.
+// Puts a line together. Always true, so that an edit may end with it.
 fn made(reader: &mut Reader, out: &mut Vec<u8>, texts: &[&[u8]]) -> bool {
     out.clear();
     reader.put_all(out, texts);
     true
 }
 
-// Puts the number without the name of a point, the unit of all numbers, that stands at once behind it.
+// Removes the unit right after a number. Points are the unit of all numbers.
 fn put_plain(reader: &mut Reader, out: &mut Vec<u8>, sick: Sick<'_>) -> bool {
-    let (unit, behind) = cut(sick.rest, word_len(sick.rest));
+    let (unit, after) = cut(sick.rest, word_len(sick.rest));
     let is_point = matches!(unit, b"px" | b"pt" | b"dp" | b"pts" | b"points");
-    is_point && ends_in_digit(sick.front) && made(reader, out, &[sick.front, behind])
+    is_point && ends_in_digit(sick.front) && made(reader, out, &[sick.front, after])
 }
 
-// Puts the size in parentheses, up to the next sign of a format, at once behind what stands in front.
+// Puts the size up to the next sign of a format in parentheses, without a blank before it.
 fn put_wrapped(reader: &mut Reader, out: &mut Vec<u8>, sick: Sick<'_>) -> bool {
-    let (size, behind) = cut(sick.rest, before_sign(sick.rest, b"[]-|)"));
+    let (size, after) = cut(sick.rest, before_sign(sick.rest, b"[]-|)"));
     let front = sick.front.trim_ascii_end();
-    !size.is_empty() && made(reader, out, &[front, b"(", size, b")", behind])
+    !size.is_empty() && made(reader, out, &[front, b"(", size, b")", after])
 }
 
-// Puts a group's name behind the line's first word.
+// Puts a group's name after the line's first word.
 fn put_group(reader: &mut Reader, out: &mut Vec<u8>, text: &[u8]) -> bool {
-    let (word, behind) = first_word(text).unwrap_or((b"", b""));
-    !behind.is_empty() && made(reader, out, &[word, b" g", behind])
+    let (word, after) = first_word(text).unwrap_or((b"", b""));
+    !after.is_empty() && made(reader, out, &[word, b" g", after])
 }
 
 // Puts the line with `_` for `-` in its group's name.
 fn put_hyphens(reader: &mut Reader, out: &mut Vec<u8>, text: &[u8]) -> bool {
     let (word, rest) = first_word(text).unwrap_or((b"", b""));
-    let (group, behind) = first_word(rest).unwrap_or((b"", b""));
+    let (group, after) = first_word(rest).unwrap_or((b"", b""));
     if !group.contains(&b'-') {
         return false;
     }
@@ -101,11 +109,11 @@ fn put_hyphens(reader: &mut Reader, out: &mut Vec<u8>, text: &[u8]) -> bool {
     for b in group {
         reader.put(out, &[if *b == b'-' { b'_' } else { *b }]);
     }
-    reader.put(out, behind);
+    reader.put(out, after);
     true
 }
 
-// Where the attribute or the metric begins that the text ends with.
+// Where the attribute or the metric at the end of the text begins.
 fn operand_start(text: &[u8]) -> usize {
     let name = word_start(text);
     match before_word(text).strip_suffix(b".") {
@@ -114,16 +122,22 @@ fn operand_start(text: &[u8]) -> usize {
     }
 }
 
-// Puts the number behind a sign in front of the attribute before it, behind this text.
+// Moves the number after a sign in front of the attribute before the sign, after this text.
 fn put_times(reader: &mut Reader, out: &mut Vec<u8>, sick: Sick<'_>, lead: &[u8]) -> bool {
     let (front, rest) = (sick.front.trim_ascii_end(), sick.rest.trim_ascii_start());
     let (before, operand) = cut(front, operand_start(front));
-    let (number, behind) = cut(rest, number_len(rest));
+    let (number, after) = cut(rest, number_len(rest));
     let is_product = !operand.is_empty() && !number.is_empty();
-    is_product && made(reader, out, &[before, lead, number, b"*", operand, behind])
+    is_product && made(reader, out, &[before, lead, number, b"*", operand, after])
 }
 
-// Puts the line as an edit makes it that is a word. Says whether it makes one.
+// Puts a command and a group's name in front of a relation.
+fn put_relation(reader: &mut Reader, out: &mut Vec<u8>, text: &[u8]) -> bool {
+    let has_relation = before_sign(text, b"<=>") < text.len();
+    has_relation && made(reader, out, &[b"constrain g ", text])
+}
+
+// Puts the line after an edit that is a word. Says whether there is such a line.
 fn put_worded(reader: &mut Reader, out: &mut Vec<u8>, edit: &[u8], sick: Sick<'_>) -> bool {
     match edit {
         b"rest" => made(reader, out, &[sick.front.trim_ascii_end()]),
@@ -131,10 +145,7 @@ fn put_worded(reader: &mut Reader, out: &mut Vec<u8>, edit: &[u8], sick: Sick<'_
         b"wrap" => put_wrapped(reader, out, sick),
         b"group" => put_group(reader, out, sick.text),
         b"hyphens" => put_hyphens(reader, out, sick.text),
-        b"relation" => {
-            let has_relation = before_sign(sick.text, b"<=>") < sick.text.len();
-            has_relation && made(reader, out, &[b"constrain g ", sick.text])
-        }
+        b"relation" => put_relation(reader, out, sick.text),
         _ => put_times(
             reader,
             out,
@@ -144,7 +155,7 @@ fn put_worded(reader: &mut Reader, out: &mut Vec<u8>, edit: &[u8], sick: Sick<'_
     }
 }
 
-// Puts the line as an edit makes it. Says whether it makes one.
+// Puts the line after an edit. Says whether there is such a line.
 fn put_edited(reader: &mut Reader, out: &mut Vec<u8>, edit: &[u8], sick: Sick<'_>) -> bool {
     if !edit.contains(&b'=') {
         return put_worded(reader, out, edit, sick);
@@ -153,7 +164,7 @@ fn put_edited(reader: &mut Reader, out: &mut Vec<u8>, edit: &[u8], sick: Sick<'_
     holds(condition, sick) && made(reader, out, &[sick.front, by, sick.rest])
 }
 
-// The line without what the mistake is, if it is this one.
+// The parts of the text beside the mistake, if it is this cure's.
 fn sick_of<'a>(cure: Cure, text: &'a [u8], at: usize) -> Option<Sick<'a>> {
     let (front, rest) = cut(text, at);
     let front = front.strip_suffix(cure.before)?;
@@ -161,7 +172,7 @@ fn sick_of<'a>(cure: Cure, text: &'a [u8], at: usize) -> Option<Sick<'a>> {
     Some(Sick { text, front, rest })
 }
 
-// What is tried of a text: a trial, and the best one so far, how much of it is wrong, and what was done.
+// The latest trial, and the best one so far: its text, how much of it is wrong, and the words of its cure.
 #[derive(Drop)]
 struct Search {
     trial: Vec<u8>,
@@ -170,7 +181,7 @@ struct Search {
     words: &'static [u8],
 }
 
-// Keeps the trial where less of it is wrong.
+// Keeps the trial if less of it is wrong.
 fn keep(reader: &mut Reader, search: &mut Search, words: &'static [u8]) {
     let lack = reader.lack(&search.trial);
     if lack < search.lack {
@@ -181,7 +192,7 @@ fn keep(reader: &mut Reader, search: &mut Search, words: &'static [u8]) {
     }
 }
 
-// Tries the cures of these rows.
+// Tries the cures in these rows.
 fn try_rows(reader: &mut Reader, search: &mut Search, rows: &'static str, text: &[u8], at: usize) {
     let mut words: &[u8] = b"";
     for row in lines(rows.as_bytes()) {
@@ -205,19 +216,15 @@ fn word_at(line: &[u8], at: usize) -> &str {
     std::str::from_utf8(word).unwrap_or("")
 }
 
-// Tries the expected word that is most like the one there.
+// Tries the expected word most similar to the one there.
 fn try_likest(reader: &mut Reader, search: &mut Search, text: &[u8], at: usize) {
     let words = expected(reader, text, at);
     let word = likest(reader, word_at(text, at), &words);
     if !word.is_empty() {
         let (front, rest) = cut(text, at);
         let before = before_word(front);
-        let behind = cut(rest, word_len(rest)).1;
-        made(
-            reader,
-            &mut search.trial,
-            &[before, word.as_bytes(), behind],
-        );
+        let after = cut(rest, word_len(rest)).1;
+        made(reader, &mut search.trial, &[before, word.as_bytes(), after]);
         keep(reader, search, LIKE);
     }
     drop(words);
@@ -230,8 +237,8 @@ fn try_all(reader: &mut Reader, search: &mut Search, text: &[u8], at: usize) {
     try_rows(reader, search, CURES, text, at);
 }
 
-// Mends one mistake of the text, at the place where it leaves the grammar, and gives what was done; an empty
-// text where nothing cures any of it.
+// Mends one mistake of the text, at the place where it leaves the grammar. Returns the words of the cure;
+// empty if no cure makes less of the text wrong.
 fn mend_once(reader: &mut Reader, text: &mut Vec<u8>, at: usize) -> &'static [u8] {
     let mut search = Search {
         trial: Vec::new(reader.alloc()),
@@ -249,8 +256,8 @@ fn mend_once(reader: &mut Reader, text: &mut Vec<u8>, at: usize) -> &'static [u8
     words
 }
 
-/// Mends the text mistake by mistake, and appends what was done, each in a line of its own. Says whether the
-/// text is a line now.
+/// Mends the text mistake by mistake, and appends the words of each cure as a line. Says whether the text is
+/// a line now.
 pub fn mend(reader: &mut Reader, text: &mut Vec<u8>, what: &mut Vec<u8>) -> bool {
     let mut last: &[u8] = b"";
     for _ in 0..ROUNDS {
@@ -269,7 +276,7 @@ pub fn mend(reader: &mut Reader, text: &mut Vec<u8>, what: &mut Vec<u8>) -> bool
     reader.leaves(text).is_none()
 }
 
-/// What is to be said of a mistake that can't be mended, if it is a known one; else an empty text.
+/// The advice on a known mistake that only the line's author can mend; empty if there is none.
 pub fn advice(text: &[u8], at: usize) -> &'static [u8] {
     let mut words: &[u8] = b"";
     for row in lines(ADVICE.as_bytes()) {
@@ -283,8 +290,7 @@ pub fn advice(text: &[u8], at: usize) -> &'static [u8] {
     b""
 }
 
-/// The line that stands in front of the place, where that is one and another word follows it; else an empty
-/// text.
+/// The text to the left of the place, if it is a line and a blank follows it; else an empty text.
 pub fn whole_front<'a>(reader: &mut Reader, text: &'a [u8], at: usize) -> &'a [u8] {
     let (front, rest) = cut(text, at);
     let is_apart = front.ends_with(b" ") || rest.starts_with(b" ");
@@ -301,8 +307,7 @@ const OTHER_VERSION: &[u8] = b"this is a line of version 2: let the script begin
 const FIRST_LINE: &[u8] =
     b"`layout 2` stands only as a script's first line that isn't blank or a comment";
 
-/// What is said of a line that would be one in a script of the other version, or at another place; else an
-/// empty text.
+/// The advice on a line that another version takes, or that belongs at another place; else an empty text.
 pub fn elsewhere(reader: &mut Reader, line: &[u8]) -> &'static [u8] {
     if is_version_line(line) {
         FIRST_LINE

@@ -1,10 +1,10 @@
-// Words and names that are like another.
+// Words and names that are similar to another.
 use crate::reader::Reader;
 use span_text::pieces::begins_with_letter;
 use strsim::osa_distance;
 
-// How far apart two words are: 0 where only the case of letters differs, else 1 more than how many letters
-// are put in, left out, changed or turned round.
+// How far apart two words are: 0 if only the case of letters differs, or else one more than their edit
+// distance, in which swapping two letters counts once.
 fn distance(reader: &mut Reader, a: &str, b: &str) -> usize {
     if a.eq_ignore_ascii_case(b) {
         return 0;
@@ -18,7 +18,7 @@ fn distance(reader: &mut Reader, a: &str, b: &str) -> usize {
     }
 }
 
-/// Of some names the one that is most like a word that was typed.
+/// The most similar to a typed word of the names taken so far.
 #[derive(Clone, Copy)]
 pub struct Near<'a> {
     typed: &'a str,
@@ -27,7 +27,7 @@ pub struct Near<'a> {
 }
 
 impl<'a> Near<'a> {
-    /// None yet. A long word may be further from the name that is meant than a short one.
+    /// No name so far. A long word may differ more from the name than a short one.
     pub fn new(typed: &'a str) -> Near<'a> {
         Near {
             typed,
@@ -36,7 +36,7 @@ impl<'a> Near<'a> {
         }
     }
 
-    /// Takes the name where it is nearer.
+    /// Takes a name, if it is nearer.
     pub fn take(&mut self, reader: &mut Reader, name: &'a str) {
         let far = distance(reader, self.typed, name);
         if far < self.far && far < name.len() {
@@ -45,14 +45,13 @@ impl<'a> Near<'a> {
         }
     }
 
-    /// The name; an empty one where none is like the word.
+    /// The nearest name; empty if none is similar.
     pub fn name(&self) -> &'a str {
         self.name
     }
 }
 
-// The word of a line of what is expected, if it is one in quotes that may stand there at once; else an empty
-// one.
+// The word of a line of what is expected; empty unless it is a word in quotes that may come without a blank.
 fn word_of(line: &str) -> &str {
     let word = line.strip_prefix('`').unwrap_or("");
     let word = word.strip_suffix('`').unwrap_or("");
@@ -63,7 +62,7 @@ fn word_of(line: &str) -> &str {
     }
 }
 
-/// The word most like the one that was typed, of those that are expected; an empty one where none is like it.
+/// The expected word most similar to the typed one; empty if none is similar.
 pub fn likest<'a>(reader: &mut Reader, typed: &'a str, expected: &'a [u8]) -> &'a str {
     let mut near = Near::new(typed);
     for line in std::str::from_utf8(expected).unwrap_or("").lines() {

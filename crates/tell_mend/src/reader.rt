@@ -1,13 +1,12 @@
-// What the grammar's own reader says of a text. Nothing here knows the grammar.
+// Asks the grammar's own reader about a text. This file has no grammar of its own.
 use crate::bytes::cut;
 use frac_core::{FRACTION_ROOM, OutOfMemory, Stop, Wide, write_frac};
 use script_text::{Version, read_line_in};
 use span_text::SyntaxAt;
 use std::alloc::Global;
 
-/// The reader of a version's lines, which also writes what is found. If memory runs out, it keeps that in
-/// mind, and what it says and writes from then on counts for nothing: whoever uses it asks
-/// [`is_short`](Reader::is_short) once, in the end.
+/// The reader of a version's lines, which also appends texts. If memory runs out, it remembers that, and its
+/// answers and texts must not be used from then on. So its user asks [`done`](Reader::done) once, at the end.
 #[derive(Clone, Copy)]
 pub struct Reader {
     alloc: Global,
@@ -25,14 +24,9 @@ impl Reader {
         }
     }
 
-    /// Where texts are kept.
+    /// The allocator of texts.
     pub fn alloc(&self) -> Global {
         self.alloc
-    }
-
-    /// Whether memory ran out.
-    pub fn is_short(&self) -> bool {
-        self.is_short
     }
 
     /// Fails if memory ran out.
@@ -44,7 +38,7 @@ impl Reader {
         }
     }
 
-    /// Keeps in mind that memory ran out, if it did.
+    /// Remembers that memory ran out, if it did.
     pub fn fail_if(&mut self, is_short: bool) {
         self.is_short |= is_short;
     }
@@ -78,7 +72,7 @@ impl Reader {
         self.put_frac(out, Wide::of(count as i128, 1));
     }
 
-    /// Where the text leaves the grammar; none where it is a line.
+    /// Where the text leaves the grammar; none if it is a line.
     pub fn leaves(&mut self, text: &[u8]) -> Option<usize> {
         match read_line_in(self.alloc, text, self.version) {
             Ok(reading) => {
@@ -101,7 +95,7 @@ impl Reader {
         leaves.is_none()
     }
 
-    /// Whether some line begins with this front and, behind it, with `more`. The front is as before.
+    /// Whether a line begins with the front and then `more`. The front is unchanged afterwards.
     pub fn takes(&mut self, front: &mut Vec<u8>, more: &[u8]) -> bool {
         let len = front.len();
         self.put(front, more);
@@ -113,8 +107,8 @@ impl Reader {
         begins
     }
 
-    /// How much of the text is wrong: 0 where it is a line, and else one more than what is left where it
-    /// leaves the grammar.
+    /// How much of the text is wrong: 0 if it is a line, or else one more than the bytes from the place where
+    /// it leaves the grammar.
     pub fn lack(&mut self, text: &[u8]) -> usize {
         match self.leaves(text) {
             Some(at) => text.len().saturating_sub(at).saturating_add(1),

@@ -1,4 +1,4 @@
-// What must have the name at a place of a line.
+// The kind of thing that a name at a place of a line must belong to.
 use crate::asking::expected;
 use crate::bytes::cut;
 use crate::near::likest;
@@ -6,12 +6,12 @@ use crate::reader::Reader;
 use crate::words::{Word, makes_metric, makes_view, word_of};
 use span_text::lines;
 
-/// What must have a name.
+/// The kind of thing that a name must belong to.
 #[derive(Clone, Copy)]
 pub enum Wanted {
     View,
     Metric,
-    /// A view or a metric, in a view's brackets.
+    /// A view or a metric: the size in a view's brackets.
     Size,
     Group,
     Suggestion,
@@ -27,11 +27,11 @@ fn is_inside(front: &[u8]) -> bool {
     is_inside
 }
 
-// What must have a name between these texts of a format or of a relation.
-fn wanted_between(front: &[u8], behind: &[u8]) -> Wanted {
+// The kind wanted between these texts of a format or a relation.
+fn wanted_between(front: &[u8], after: &[u8]) -> Wanted {
     if front.ends_with(b"@") {
         Wanted::Priority
-    } else if front.ends_with(b"[") || behind.starts_with(b".") {
+    } else if front.ends_with(b"[") || after.starts_with(b".") {
         Wanted::View
     } else if is_inside(front) {
         Wanted::Size
@@ -40,7 +40,7 @@ fn wanted_between(front: &[u8], behind: &[u8]) -> Wanted {
     }
 }
 
-/// What must have the name at this place of the line.
+/// The kind wanted at this place of the line, where the name is.
 pub fn wanted_at(line: &[u8], at: usize, name: &[u8]) -> Wanted {
     let (front, rest) = cut(line, at);
     match word_of(line).0 {
@@ -54,17 +54,17 @@ pub fn wanted_at(line: &[u8], at: usize, name: &[u8]) -> Wanted {
 }
 
 impl Wanted {
-    /// Whether a view may have the name.
+    /// Whether a view is of this kind.
     pub fn is_view(self) -> bool {
         matches!(self, Wanted::View | Wanted::Size)
     }
 
-    /// Whether a metric may have the name.
+    /// Whether a metric is of this kind.
     pub fn is_metric(self) -> bool {
         matches!(self, Wanted::Metric | Wanted::Size | Wanted::Priority)
     }
 
-    /// Whether a number may stand for the name.
+    /// Whether a number may replace the name.
     pub fn is_number(self) -> bool {
         matches!(self, Wanted::Metric | Wanted::Size)
     }
@@ -80,7 +80,7 @@ impl Wanted {
         }
     }
 
-    /// How such a thing is made: the words before and behind its name.
+    /// How such a thing is made: the words before and after its name.
     pub fn how(self) -> (&'static str, &'static str) {
         match self {
             Wanted::View => ("`view ", "` in front of this line makes it"),
@@ -92,7 +92,7 @@ impl Wanted {
         }
     }
 
-    /// The number of the script's first line that would make it; 0 where there is none.
+    /// The number of the script's first line that would make it; 0 if there is none.
     pub fn maker(self, script: &[u8], name: &[u8]) -> usize {
         let mut number: usize = 0;
         for line in lines(script) {
@@ -107,7 +107,7 @@ impl Wanted {
     }
 }
 
-// Whether the name is near to a word that is expected there.
+// Whether the name is similar to a word that is expected there.
 fn is_like_expected(reader: &mut Reader, line: &[u8], at: usize, name: &str) -> bool {
     let words = expected(reader, line, at);
     let is_like = !likest(reader, name, &words).is_empty();
@@ -115,7 +115,7 @@ fn is_like_expected(reader: &mut Reader, line: &[u8], at: usize, name: &str) -> 
     is_like
 }
 
-/// Whether the name is a word of the grammar for attributes, or near to one.
+/// Whether the name is a word for an attribute, or similar to one.
 pub fn is_attribute(reader: &mut Reader, name: &str) -> bool {
     let mut line = Vec::new(reader.alloc());
     reader.put_all(&mut line, &[b"release a.", name.as_bytes()]);
@@ -127,7 +127,7 @@ pub fn is_attribute(reader: &mut Reader, name: &str) -> bool {
     is_like
 }
 
-// Words that other toolkits have for priorities, and the priority that is usual for each.
+// Other toolkits' words for priorities, and the usual priority of each.
 const RANKS: &str = "\
 required~1000
 strong~750
@@ -136,7 +136,7 @@ medium~500
 low~250
 weak~250";
 
-/// The priority that is usual for a word that other toolkits have for one; else an empty text.
+/// The usual priority of another toolkit's word for one; empty if it is no such word.
 pub fn rank_for(name: &str) -> &'static str {
     for row in RANKS.lines() {
         match row.split_once('~') {

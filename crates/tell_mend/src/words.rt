@@ -1,10 +1,9 @@
-// The commands that lines are of, by their first words, and what they name. A line may leave the grammar
-// behind its first word, and then it has no reading.
+// The commands of lines, by their first words, and the names in them. The lines needn't be in the grammar.
 use crate::bytes::{cut, find_word};
 use span_text::pieces::word_len;
 use span_text::{first_word, lines};
 
-/// The command of a line, as far as it matters for what is said of the line.
+/// The command of a line, as far as explanations depend on it.
 #[derive(Clone, Copy)]
 pub enum Word {
     View,
@@ -19,7 +18,7 @@ pub enum Word {
     Other,
 }
 
-/// The command of a line by its first word, and what follows that.
+/// The command of a line by its first word, and the text after that.
 pub fn word_of(line: &[u8]) -> (Word, &[u8]) {
     let (word, rest) = first_word(line).unwrap_or((b"", b""));
     let word = match word {
@@ -36,13 +35,13 @@ pub fn word_of(line: &[u8]) -> (Word, &[u8]) {
     (word, rest)
 }
 
-// The word that the text begins with behind its blanks.
+// The word at the start of the text, after its blanks.
 fn leading_word(text: &[u8]) -> &[u8] {
     let text = text.trim_ascii_start();
     cut(text, word_len(text)).0
 }
 
-/// The group of the line, if it is one of a group; else an empty text.
+/// The group of the line; empty if its command has none.
 pub fn group_of(line: &[u8]) -> &[u8] {
     match word_of(line) {
         (Word::Vfl | Word::Constrain, rest) => leading_word(rest),
@@ -67,7 +66,7 @@ pub fn makes_metric(line: &[u8], name: &[u8]) -> bool {
     }
 }
 
-/// The line of this number, counted from 1; an empty one where there is none.
+/// The line of this number, counted from 1; empty if there is none.
 pub fn line_at(script: &[u8], number: usize) -> &[u8] {
     let mut count: usize = 0;
     for line in lines(script) {

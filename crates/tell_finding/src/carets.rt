@@ -1,11 +1,11 @@
 // A line with a caret below it.
-use crate::bytes::{char_place, cut};
-use crate::reader::Reader;
+use crate::chars::char_place;
+use tell_mend::{Reader, cut};
 
-// How many of a line's characters are shown.
+// How many characters of a line are shown.
 const SHOWN: usize = 120;
 
-/// Appends the characters that are shown, behind so many that are hidden; `..` where some are.
+/// Appends the characters after the first `hidden`, at most `SHOWN`, with `..` for those left out.
 pub fn put_shown(reader: &mut Reader, out: &mut Vec<u8>, text: &[u8], hidden: usize) {
     let (_, rest) = cut(text, char_place(text, hidden));
     let (shown, more) = cut(rest, char_place(rest, SHOWN));
@@ -18,7 +18,7 @@ pub fn put_shown(reader: &mut Reader, out: &mut Vec<u8>, text: &[u8], hidden: us
     }
 }
 
-// Appends blanks below the characters from the first one that is shown up to a place; a tab below a tab.
+// Appends a blank for each shown character before the place `end`, and a tab for each tab.
 fn put_below(reader: &mut Reader, out: &mut Vec<u8>, text: &str, hidden: usize, end: usize) {
     let mut place: usize = 0;
     if hidden > 0 {
@@ -32,8 +32,8 @@ fn put_below(reader: &mut Reader, out: &mut Vec<u8>, text: &str, hidden: usize, 
     }
 }
 
-/// Appends the line with a caret below it, in this column, and signs below all of a width; of a long line a
-/// part.
+/// Appends the line, and below it a caret in this column, followed by `~` up to this width. Of a line with
+/// more than 120 characters only a part is shown.
 pub fn put_caret(reader: &mut Reader, out: &mut Vec<u8>, text: &str, column: usize, width: usize) {
     let hidden = if column < SHOWN {
         0

@@ -1,16 +1,16 @@
-// What is said of each cause of a refusal, and the form of each command: texts whose lines are rows.
+// The meaning of each cause of a refusal, and the form of each command: texts whose lines are rows.
 use span_text::first_word;
 
-/// A cause: what shows it in the line, and what it means and what to do. For `{}` stands a limit, which the
-/// crate says that means it.
+/// A cause: the mark that shows it in the line, and what it means and what to do. `{}` is the place of a
+/// limit's number, which the crate of that limit defines.
 #[derive(Clone, Copy)]
 pub struct Cause {
     pub mark: &'static str,
     pub why: &'static str,
 }
 
-// NAME~MARK~WHY. The first one counts that a reply's words begin with behind their number: so `limit lines`
-// stands before `limit line`.
+// NAME~MARK~WHY. The first row counts whose name the reply's words after the number begin with. So `limit
+// lines` comes before `limit line`.
 const CAUSES: &str = "\
 syntax~~
 unknown~~nothing has this name: make it first, or mend the name
@@ -42,7 +42,7 @@ overflow~~an exact number has grown too large: take fractions with smaller parts
 spent~~the run made as many exchanges as the budget allows: raise it by `budget`
 undo~~no change is left to take back";
 
-// What is said where the text of a tree is no JSON, by what stands there.
+// The cure if a tree's text is no JSON: TEXT~CURE, by the text at the place where it goes wrong.
 const JSON: &str = "\
 '~texts stand in `\"`
 \u{201c}~texts stand in the `\"` of the keyboard
@@ -58,7 +58,7 @@ const JSON: &str = "\
 ]~a `]` stands there too early, or behind a `,`
 ~keys and names are texts, in `\"`; between two stands a `,`, and each `{` and `[` is closed";
 
-// The form of each command, as the language's page has it.
+// The form of each command, as in `docs/LANGUAGE.md`.
 const FORMS: &str = "\
 view NAME (in NAME)?
 tree JSON
@@ -83,7 +83,7 @@ keep NAME
 sweep width NUMBER NUMBER
 why change";
 
-// What a row says behind its first `~`, of the first one that the text begins with in front of that.
+// The text after the first `~` of the first row whose text before it begins the given one.
 fn row_for(rows: &'static str, text: &str) -> &'static str {
     for row in rows.lines() {
         match row.split_once('~') {
@@ -94,7 +94,7 @@ fn row_for(rows: &'static str, text: &str) -> &'static str {
     ""
 }
 
-/// The cause that the reply's words behind its number begin with.
+/// The cause that the reply's words after its number begin with.
 pub fn cause_of(words: &str) -> Cause {
     match row_for(CAUSES, words).split_once('~') {
         Some((mark, why)) => Cause { mark, why },
@@ -102,7 +102,7 @@ pub fn cause_of(words: &str) -> Cause {
     }
 }
 
-/// The form of the command of a line; an empty text where no command has the line's first word.
+/// The form of the line's command; empty if its first word is no command.
 pub fn form_of(line: &[u8]) -> &'static str {
     let (word, _) = first_word(line).unwrap_or((b"", b""));
     for form in FORMS.lines() {
@@ -114,8 +114,8 @@ pub fn form_of(line: &[u8]) -> &'static str {
     ""
 }
 
-/// What is said of a tree's text that is no JSON from here on.
-pub fn json_cure(rest: &str) -> &'static str {
+/// The cure of a tree's text that is no JSON from here on.
+pub(crate) fn json_cure(rest: &str) -> &'static str {
     if rest.is_empty() {
         "the text ends too early: each `{`, `[` and `\"` is closed by another"
     } else {

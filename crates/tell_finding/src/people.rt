@@ -1,10 +1,11 @@
-// What is said of a line, for people.
+// A finding as text for people.
+use crate::carets::{put_caret, put_shown};
 use crate::finding::{items_of, number_of, text_of};
 use serde_json::Value;
-use tell_mend::{Reader, cut, put_caret, put_shown};
+use tell_mend::{Reader, cut};
 
-// What stands in front of each member that is a text or a list of texts, its name, and what stands between
-// the texts of a list: words are short, and what is said has commas of its own.
+// LABEL~MEMBER~SEPARATOR: the members that are a text or a list of texts. Cures contain commas, so they are
+// separated by `;`.
 const LABELS: &str = "\
 expected~expected~,
 form~form~;
@@ -14,7 +15,17 @@ so~mended~;
 then~then~;
 probe~probe~;";
 
-// Appends the member that a row of the labels names, if it is there.
+// Appends a text, or the texts of a list with a separator between them. Only one of them isn't empty.
+fn put_texts(reader: &mut Reader, out: &mut Vec<u8>, items: &[Value], between: &str) {
+    for (place, item) in items.iter().enumerate() {
+        if place > 0 {
+            reader.put_all(out, &[between.as_bytes(), b" "]);
+        }
+        reader.put(out, item.as_str().unwrap_or("").as_bytes());
+    }
+}
+
+// Appends the member that a row of the labels names, if there is one.
 fn put_member(reader: &mut Reader, out: &mut Vec<u8>, finding: &Value, row: &str) {
     let (label, rest) = row.split_once('~').unwrap_or((row, ""));
     let (key, between) = rest.split_once('~').unwrap_or((rest, ""));
@@ -23,12 +34,7 @@ fn put_member(reader: &mut Reader, out: &mut Vec<u8>, finding: &Value, row: &str
         return;
     }
     reader.put_all(out, &[b"    ", label.as_bytes(), b": ", text.as_bytes()]);
-    for (place, item) in items.iter().enumerate() {
-        if place > 0 {
-            reader.put_all(out, &[between.as_bytes(), b" "]);
-        }
-        reader.put(out, item.as_str().unwrap_or("").as_bytes());
-    }
+    put_texts(reader, out, items, between);
     reader.put(out, b"\n");
 }
 
@@ -44,19 +50,24 @@ fn put_source(reader: &mut Reader, out: &mut Vec<u8>, item: &Value) {
     put_shown(reader, out, text.as_bytes(), 0);
 }
 
-// Appends a row of a conflict. The multipliers stand below each other at their right.
-fn put_row(reader: &mut Reader, out: &mut Vec<u8>, item: &Value) {
+// Appends a row's multiplier, right-aligned.
+fn put_times(reader: &mut Reader, out: &mut Vec<u8>, item: &Value) {
     let mut times = Vec::new(reader.alloc());
     reader.put_number(&mut times, number_of(item, "times"));
     let blanks = cut(b"    ", times.len()).1;
     reader.put_all(out, &[b"    ", blanks, &times, b" times "]);
     drop(times);
+}
+
+// Appends a row of a conflict.
+fn put_row(reader: &mut Reader, out: &mut Vec<u8>, item: &Value) {
+    put_times(reader, out, item);
     put_source(reader, out, item);
     let (row, note) = (text_of(item, "row"), text_of(item, "note"));
     reader.put_all(out, &[b" [", row.as_bytes(), b"]", note.as_bytes(), b"\n"]);
 }
 
-// Appends an attribute that could be elsewhere.
+// Appends an ambiguous attribute.
 fn put_open(reader: &mut Reader, out: &mut Vec<u8>, item: &Value) {
     let (attr, value) = (text_of(item, "attribute"), text_of(item, "value"));
     let (reach, pin) = (text_of(item, "reach"), text_of(item, "pin"));
@@ -65,24 +76,26 @@ fn put_open(reader: &mut Reader, out: &mut Vec<u8>, item: &Value) {
     reader.put_all(out, &[b"; to pin it: ", pin.as_bytes(), b"\n"]);
 }
 
-// Appends which line it is, where, and its reply, and the line with a caret.
+// Appends the line with a caret.
+fn put_marked(reader: &mut Reader, out: &mut Vec<u8>, finding: &Value) {
+    let column = usize::try_from(number_of(finding, "column")).unwrap_or(0);
+    let width = usize::try_from(number_of(finding, "width")).unwrap_or(0);
+    put_caret(reader, out, text_of(finding, "text"), column, width);
+}
+
+// Appends the line's number, where its cause shows, and its reply.
 fn put_head(reader: &mut Reader, out: &mut Vec<u8>, finding: &Value) {
-    let column = number_of(finding, "column");
-    let width = number_of(finding, "width");
     reader.put(out, b"line ");
     reader.put_number(out, number_of(finding, "line"));
     reader.put(out, b", column ");
-    reader.put_number(out, column);
+    reader.put_number(out, number_of(finding, "column"));
     reader.put_all(out, &[b": ", text_of(finding, "reply").as_bytes(), b"\n"]);
-    let text = text_of(finding, "text");
-    let column = usize::try_from(column).unwrap_or(0);
-    let width = usize::try_from(width).unwrap_or(0);
-    put_caret(reader, out, text, column, width);
 }
 
-/// Appends what is said of a line.
+/// Appends the finding as text.
 pub fn put_people(reader: &mut Reader, out: &mut Vec<u8>, finding: &Value) {
     put_head(reader, out, finding);
+    put_marked(reader, out, finding);
     for row in LABELS.lines() {
         put_member(reader, out, finding, row);
     }

@@ -1,8 +1,7 @@
-// What is said of a conflict.
+// The explanation of a conflict.
 use crate::problem::posed;
-use crate::rows::row_of;
 use crate::telling::Telling;
-use problem_core::Problem;
+use problem_core::{Problem, row_of};
 use span_text::lines;
 use tell_mend::{Word, find_word, word_of};
 
@@ -22,14 +21,14 @@ const DRAG: &[u8] = b"a suggestion of 1000 is required: take a smaller priority,
 const ALIGNED: &[u8] =
     b"views with nothing between them touch: to align them alone, `constrain` one with the other";
 
-// How many times a row of a conflict is taken, and the row's number, if the line of a reply says so.
+// The multiplier and the row number in a reply's line `by TIMES row NUMBER`.
 fn by_of(line: &[u8]) -> Option<(i64, u32)> {
     let line = std::str::from_utf8(line).unwrap_or("");
     let (times, id) = line.strip_prefix("by ")?.split_once(" row ")?;
     Some((times.parse::<i64>().ok()?, id.parse::<u32>().ok()?))
 }
 
-// The way out where other lines stand against this one.
+// The way out if other lines contradict this one.
 fn way_by_line(line: &[u8]) -> &'static [u8] {
     match word_of(line).0 {
         Word::Vfl if find_word(line, 0, b"", b"align").is_some() => ALIGNED,
@@ -40,7 +39,7 @@ fn way_by_line(line: &[u8]) -> &'static [u8] {
 }
 
 impl Telling<'_> {
-    // What way there is out of the conflict: by what its rows are.
+    // The way out of the conflict, by the lines that its rows are from.
     fn way_out(&self) -> &'static [u8] {
         let mut way = ALONE;
         for line in lines(self.reply) {
@@ -56,7 +55,7 @@ impl Telling<'_> {
         way
     }
 
-    // Puts forward the line as a wish, if it is one of one relation without a priority.
+    // Suggests the line as a wish, if it may have a priority.
     fn set_wish(&mut self, cure: &mut Vec<u8>) {
         let mut wish = Vec::new(self.alloc());
         self.reader.put_all(&mut wish, &[self.line, b" @750"]);
@@ -67,7 +66,7 @@ impl Telling<'_> {
         drop(wish);
     }
 
-    // Says what way there is out of the conflict.
+    // Sets the way out of the conflict.
     fn set_way_out(&mut self) {
         let way = self.way_out();
         let mut cure = Vec::new(self.alloc());
@@ -75,13 +74,14 @@ impl Telling<'_> {
         if way == WAY_OUT && matches!(word_of(self.line).0, Word::Constrain) {
             self.set_wish(&mut cure);
         }
-        self.set_cure(&cure);
+        self.finding.set_cure(&cure);
         drop(cure);
     }
 
-    // Says what the rows of the conflict are, where this is the problem that the line would solve.
+    // Sets the rows of the conflict. The problem is the one that the line would solve.
     fn set_rows(&mut self, problem: &Problem) {
         let mut items = Vec::new(self.alloc());
+        problem.show_whole(); // for the proof: its rows have rising numbers
         for line in lines(self.reply) {
             let (times, id) = by_of(line.bytes).unwrap_or((0, u32::MAX));
             if let Some(row) = row_of(problem.rows(), id) {
@@ -92,8 +92,8 @@ impl Telling<'_> {
         self.finding.set_items("rows", items);
     }
 
-    /// Says what there is to be said of a conflict.
-    pub fn set_conflict(&mut self) {
+    /// Explains a conflict.
+    pub(crate) fn set_conflict(&mut self) {
         self.set_way_out();
         match posed(self.alloc(), self.session, self.line) {
             Ok(problem) => {

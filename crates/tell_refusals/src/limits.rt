@@ -1,13 +1,14 @@
-// The numbers of limits.
+// The meanings of causes, with the numbers of limits.
 use compile_parts::ADDEND_LIMIT;
 use edge_io::LINE_LIMIT;
 use name_tables::{METRIC_LIMIT, NAME_LIMIT};
 use problem_core::{REQUIRED, TERM_LIMIT, WEIGHT_LIMIT};
 use session_undo::{BUDGET_LIMIT, Limits};
-use tell_mend::{Reader, digits_behind};
+use tell_finding::digits_behind;
+use tell_mend::Reader;
 use view_tree::DEPTH_LIMIT;
 
-// The number that stands for `{}` in what is said of a cause, where a session has these limits.
+// The number for `{}` in a cause's meaning, in a session with these limits.
 fn limit_of(words: &str, limits: &Limits) -> usize {
     match words {
         "limit lines" => limits.lines,
@@ -25,7 +26,7 @@ fn limit_of(words: &str, limits: &Limits) -> usize {
     }
 }
 
-// Appends the number: with a comma in front of its last three digits, unless lines write such numbers.
+// Appends the number, with a comma before its last three digits unless it is one that scripts contain.
 fn put_limit(reader: &mut Reader, out: &mut Vec<u8>, words: &str, number: usize) {
     let rest = number % 1000;
     if number < 1000 || words.starts_with("kind") {
@@ -45,8 +46,14 @@ fn put_limit(reader: &mut Reader, out: &mut Vec<u8>, words: &str, number: usize)
     reader.put_count(out, rest);
 }
 
-/// Appends what is said of the cause that these words name, with the number of its limit.
-pub fn put_why(reader: &mut Reader, out: &mut Vec<u8>, words: &str, why: &str, limits: &Limits) {
+/// Appends what the cause means that these words name, with the number of its limit.
+pub(crate) fn put_why(
+    reader: &mut Reader,
+    out: &mut Vec<u8>,
+    words: &str,
+    why: &str,
+    limits: &Limits,
+) {
     match why.split_once("{}") {
         Some((front, rest)) => {
             reader.put(out, front.as_bytes());

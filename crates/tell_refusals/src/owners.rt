@@ -1,9 +1,8 @@
-// From rows to the lines that they are from.
+// Which line each row is from.
 use frac_core::OutOfMemory;
 use std::alloc::Global;
 
-// The number of a line, and the numbers of the rows that are from it: from `from` up to `to`, without that
-// one.
+// A line's number, and the numbers of its rows: from `from` up to `to`, exclusive.
 #[derive(Clone, Copy)]
 struct Owner {
     line: usize,
@@ -11,7 +10,7 @@ struct Owner {
     to: u32,
 }
 
-/// The accepted lines that brought rows, in order.
+/// The accepted lines that have rows, in order.
 #[derive(Drop)]
 pub struct Owners {
     owners: Vec<Owner>,
@@ -20,7 +19,7 @@ pub struct Owners {
 }
 
 impl Owners {
-    /// No line, where the next new row has this number.
+    /// No lines. The next new row gets this number.
     pub fn new(alloc: Global, next: u32) -> Owners {
         Owners {
             owners: Vec::new(alloc),
@@ -28,9 +27,9 @@ impl Owners {
         }
     }
 
-    /// The number of the line that brought the row of this number: 0 for the window's rows, which no line
-    /// brought, and none for a row that isn't there yet.
-    pub fn of(&self, id: u32) -> Option<usize> {
+    /// The number of the line that the row of this number is from: 0 for the window's own rows, and none for
+    /// a row that doesn't exist yet.
+    pub(crate) fn of(&self, id: u32) -> Option<usize> {
         for owner in &self.owners {
             if owner.from <= id && id < owner.to {
                 return Some(owner.line);
@@ -39,8 +38,8 @@ impl Owners {
         if id < self.next { Some(0) } else { None }
     }
 
-    /// Whether the line of this number brought rows.
-    pub fn has(&self, line: usize) -> bool {
+    /// Whether the line of this number has rows.
+    pub(crate) fn has(&self, line: usize) -> bool {
         for owner in &self.owners {
             if owner.line == line {
                 return true;
@@ -49,8 +48,8 @@ impl Owners {
         false
     }
 
-    /// Takes an accepted line, behind which the next new row has this number. It is smaller than before where
-    /// the line took others back.
+    /// Takes an accepted line, after which the next new row gets this number. The number falls if the line
+    /// undoes others.
     pub fn take(&mut self, line: usize, next: u32) -> Result<(), OutOfMemory> {
         let from = self.next;
         self.next = next;

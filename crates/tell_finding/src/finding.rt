@@ -1,11 +1,11 @@
-// What is said of a line, as one object.
+// A finding: one refused line, as a JSON object.
+use crate::chars::{char_count, first_piece};
 use serde_json::{Map, Value, push, put};
 use span_text::lines;
 use std::alloc::Global;
-use tell_mend::Reader;
+use tell_mend::{Reader, cut};
 
-/// The members of an object, by their names. If memory runs out, it keeps that in mind, and counts for
-/// nothing.
+/// An object and its members by name. If memory runs out, `is_short` is set and the object must not be used.
 #[derive(Drop)]
 pub struct Finding {
     alloc: Global,
@@ -23,22 +23,22 @@ impl Finding {
         }
     }
 
-    // Gives the member of this name a value.
+    // Sets a member.
     fn set(&mut self, key: &str, value: Value) {
         self.is_short |= put(&mut self.members, self.alloc, key, value).is_err();
     }
 
-    /// Gives the member of this name a number.
+    /// Sets a member to a number.
     pub fn set_number(&mut self, key: &str, number: i64) {
         self.set(key, Value::from(number));
     }
 
-    /// Gives the member of this name a count.
+    /// Sets a member to a count.
     pub fn set_count(&mut self, key: &str, count: usize) {
         self.set(key, Value::from(count));
     }
 
-    /// Gives the member of this name a text, where the bytes may be none.
+    /// Sets a member to a text. Bytes that aren't UTF-8 are replaced.
     pub fn set_text(&mut self, key: &str, text: &[u8]) {
         match String::from_utf8_lossy(self.alloc, text) {
             Ok(text) => self.set(key, Value::from(text)),
@@ -46,7 +46,7 @@ impl Finding {
         }
     }
 
-    /// Gives the member of this name the lines of a text as a list, if there are any.
+    /// Sets a member to the list of a text's lines, if there are any.
     pub fn set_lines(&mut self, key: &str, text: &[u8]) {
         let mut items = Vec::new(self.alloc);
         for line in lines(text) {
@@ -58,13 +58,27 @@ impl Finding {
         self.set_items(key, items);
     }
 
+    /// Sets the cures, one on each line of the text.
+    pub fn set_cure(&mut self, cure: &[u8]) {
+        self.set_lines("cure", cure);
+    }
+
+    /// Sets where in the line the cause shows. Column and width count characters, columns from 1. The offset
+    /// counts bytes from 0.
+    pub fn set_place(&mut self, line: &[u8], at: usize) {
+        let (front, rest) = cut(line, at);
+        self.set_count("offset", at);
+        self.set_count("column", char_count(front).saturating_add(1));
+        self.set_count("width", char_count(first_piece(rest)).max(1));
+    }
+
     /// Appends an object to a list.
     pub fn push_item(&mut self, items: &mut Vec<Value>, item: Finding) {
         self.is_short |= item.is_short;
         self.is_short |= push(items, item.value()).is_err();
     }
 
-    /// Gives the member of this name a list, unless it is empty.
+    /// Sets a member to a list, unless it is empty.
     pub fn set_items(&mut self, key: &str, items: Vec<Value>) {
         if !items.is_empty() {
             self.set(key, Value::from(items));
@@ -77,7 +91,7 @@ impl Finding {
     }
 }
 
-/// The member of this name that is a text; an empty text where there is none.
+/// A member that is a text; empty if there is none.
 pub fn text_of<'v>(object: &'v Value, key: &str) -> &'v str {
     match object.get(key) {
         Some(Value::String(text)) => text,
@@ -85,23 +99,23 @@ pub fn text_of<'v>(object: &'v Value, key: &str) -> &'v str {
     }
 }
 
-/// The member of this name that is a number; 0 where there is none.
-pub fn number_of(object: &Value, key: &str) -> i64 {
+/// A member that is a number; 0 if there is none.
+pub(crate) fn number_of(object: &Value, key: &str) -> i64 {
     match object.get(key) {
         Some(value) => value.as_i64().unwrap_or(0),
         None => 0,
     }
 }
 
-/// The member of this name that is a list; an empty one where there is none.
-pub fn items_of<'v>(object: &'v Value, key: &str) -> &'v [Value] {
+/// A member that is a list; empty if there is none.
+pub(crate) fn items_of<'v>(object: &'v Value, key: &str) -> &'v [Value] {
     match object.get(key) {
         Some(Value::Array(items)) => items,
         _ => &[],
     }
 }
 
-/// Appends the object as a line.
+/// Appends the object as JSON on a line.
 pub fn put_json(reader: &mut Reader, out: &mut Vec<u8>, object: &Value) {
     match object.to_string(reader.alloc()) {
         Ok(text) => reader.put_all(out, &[text.as_bytes(), b"\n"]),

@@ -1,9 +1,8 @@
 // The problem of a line that is refused because a number is too large or the budget is used up, with its
 // path.
-use crate::rows::row_of;
 use claim_writing::{problem_text, rows_text};
 use frac_core::{Frac, Stop};
-use problem_core::{Problem, Row, Stay};
+use problem_core::{Problem, Row, Stay, row_of};
 use reply_texts::reply_text;
 use script_text::{Command, Plain, Reading, read_line_in};
 use session_undo::{Refusal, Session};
@@ -12,19 +11,31 @@ use std::alloc::Global;
 use std::slice;
 use tell_mend::{Reader, parted};
 
-/// The problem that a line would solve, or by what it is refused before anything is solved.
-pub fn posed(alloc: Global, session: &Session, line: &[u8]) -> Result<Problem, Refusal> {
+// The command whose problem a line is asked for. A line without a command has that of the scene as it is.
+fn posed_command(reading: Reading) -> Command {
+    match reading {
+        Reading::Nothing => Command::Plain(Plain::Frames),
+        Reading::Command(command) => command,
+        Reading::Why(change) => Command::Change(change),
+    }
+}
+
+/// The problem that a line would solve, or its refusal before anything is solved.
+pub(crate) fn posed(alloc: Global, session: &Session, line: &[u8]) -> Result<Problem, Refusal> {
     match read_line_in(alloc, line, session.version()) {
-        Ok(Reading::Nothing) => session.step_problem(&Command::Plain(Plain::Frames)),
-        Ok(Reading::Command(command)) => session.step_problem(&command),
-        Ok(Reading::Why(change)) => session.step_problem(&Command::Change(change)),
+        Ok(reading) => {
+            let command = posed_command(reading);
+            let posed = session.step_problem(&command);
+            drop(command);
+            posed
+        }
         Err(Stop::Refused(SyntaxAt(at))) => Err(Refusal::Syntax(at)),
         Err(Stop::OutOfMemory) => Err(Refusal::OutOfMemory),
     }
 }
 
-/// Appends the reply to a line that is refused before anything is solved; nothing where it isn't.
-pub fn put_early(reader: &mut Reader, session: &Session, line: &[u8], out: &mut Vec<u8>) {
+/// Appends the reply to a line that is refused before anything is solved; nothing for other lines.
+pub(crate) fn put_early(reader: &mut Reader, session: &Session, line: &[u8], out: &mut Vec<u8>) {
     match posed(reader.alloc(), session, line) {
         Ok(problem) => drop(problem),
         Err(refusal) => {
@@ -36,25 +47,26 @@ pub fn put_early(reader: &mut Reader, session: &Session, line: &[u8], out: &mut 
     }
 }
 
-// The lines of a reply behind the first.
-fn behind_head(reply: &[u8]) -> &[u8] {
+// The lines of a reply after the first.
+fn after_head(reply: &[u8]) -> &[u8] {
     parted(reply, b'\n').1
 }
 
-/// Whether the problem of a run that stopped with this reply has rows of the line's own problem alone: none
-/// of a probe, of a sweep, or of rows that were leaving.
-pub fn is_own(reply: &[u8]) -> bool {
-    let place = behind_head(reply);
+/// Whether the problem of the stopped run with this reply has only rows of the line's own problem: none of a
+/// probe, of a sweep, or of rows that were leaving.
+pub(crate) fn is_own(reply: &[u8]) -> bool {
+    let place = after_head(reply);
     !place.starts_with(b"still ") && !place.starts_with(b"probe ") && !place.starts_with(b"sweep ")
 }
 
-// The row of the problem that a line of a reply says was tried alone, if it says so.
+// The row in a reply's line `held NUMBER`: one of the rows that were tried alone.
 fn tried<'p>(problem: &'p Problem, line: &[u8]) -> Option<&'p Row> {
     let id = std::str::from_utf8(line.strip_prefix(b"held ")?).ok()?;
+    problem.show_whole(); // for the proof: its rows have rising numbers
     row_of(problem.rows(), id.parse::<u32>().ok()?)
 }
 
-// Appends the problem of the rows that the reply says were tried alone, with each attribute drawn to 0.
+// Appends the problem of the rows that were tried alone, with each attribute's stay at 0.
 fn put_trial(reader: &mut Reader, out: &mut Vec<u8>, problem: &Problem, reply: &[u8]) {
     for line in lines(reply) {
         if let Some(row) = tried(problem, line.bytes) {
@@ -72,16 +84,16 @@ fn put_trial(reader: &mut Reader, out: &mut Vec<u8>, problem: &Problem, reply: &
 
 // Appends the path of the reply.
 fn put_path(reader: &mut Reader, out: &mut Vec<u8>, reply: &[u8]) {
-    for line in lines(behind_head(reply)) {
+    for line in lines(after_head(reply)) {
         if !line.bytes.starts_with(b"held ") {
             reader.put_all(out, &[line.bytes, b"\n"]);
         }
     }
 }
 
-// Appends the problem whose run stopped with this reply, and its path.
+// Appends the problem of the stopped run with this reply, and its path.
 fn put_claim(reader: &mut Reader, out: &mut Vec<u8>, problem: &Problem, reply: &[u8]) {
-    if behind_head(reply).starts_with(b"held ") {
+    if after_head(reply).starts_with(b"held ") {
         put_trial(reader, out, problem, reply);
     } else {
         reader.fail_if(problem_text(problem, out).is_err());
@@ -89,7 +101,7 @@ fn put_claim(reader: &mut Reader, out: &mut Vec<u8>, problem: &Problem, reply: &
     put_path(reader, out, reply);
 }
 
-// Why there is no problem of a line with this reply; an empty text where there is one.
+// Why a line with this reply has no problem; empty if it has one.
 fn reason(reply: &[u8]) -> &'static [u8] {
     if !reply.starts_with(b"refused 7 ") && !reply.starts_with(b"refused 8 ") {
         b"no problem: the line isn't refused by 7 or 8\n"
@@ -100,8 +112,8 @@ fn reason(reply: &[u8]) -> &'static [u8] {
     }
 }
 
-/// Appends the problem that a line with this reply was refused by, with its path, in the form that `layout
-/// check` reads, or why there is none. Says whether there is one.
+/// Appends the problem of a refused line with this reply and its path, in the form that `layout check` reads,
+/// or why there is none. Says whether there is one.
 pub fn put_problem(
     reader: &mut Reader,
     out: &mut Vec<u8>,

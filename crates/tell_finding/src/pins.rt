@@ -1,12 +1,12 @@
-// Lines that pin an attribute which could be elsewhere.
-use crate::reader::Reader;
+// Lines that pin an attribute which `diagnose` found ambiguous.
 use frac_core::{Frac, Wide};
 use span_text::NUMBER_DIGITS;
+use tell_mend::Reader;
 
-// No number has more digits than this.
+// No number has more digits after its first.
 const MOST_DIGITS: usize = 20;
 
-/// How many digits a number has behind its first.
+/// The number of digits after the first.
 pub fn digits_behind(number: i64) -> usize {
     let mut left = number.unsigned_abs();
     for count in 0..MOST_DIGITS {
@@ -18,8 +18,8 @@ pub fn digits_behind(number: i64) -> usize {
     MOST_DIGITS
 }
 
-// Appends a line that keeps the attribute at a value: one with a multiplier if that is no whole number, and
-// none if a script can't write its parts.
+// Appends a line that keeps the attribute at a value. A fraction is kept by a multiplier. If a script can't
+// write the value's parts, it only says that a line should name the attribute.
 fn put_kept(reader: &mut Reader, out: &mut Vec<u8>, attr: &str, value: Frac) {
     let (num, den) = (value.num(), value.den());
     if digits_behind(num) >= NUMBER_DIGITS || digits_behind(den) >= NUMBER_DIGITS {
@@ -35,8 +35,8 @@ fn put_kept(reader: &mut Reader, out: &mut Vec<u8>, attr: &str, value: Frac) {
     reader.put(out, b" @50");
 }
 
-/// Appends a line that pins an attribute with this value: the window has a size, another size hugs what is
-/// inside, an edge stays.
+/// Appends a line that pins an attribute with this value. The window gets a size, another size becomes as
+/// small as its content, an edge stays.
 pub fn put_pin(reader: &mut Reader, out: &mut Vec<u8>, attr: &str, value: Frac) {
     if attr == "window.width" || attr == "window.height" {
         reader.put(out, b"window WIDTH HEIGHT");

@@ -1,21 +1,22 @@
-// Where a cause shows that is of the names of a session, or of a limit of lines.
+// Where a cause shows that depends on a session's names, or on a limit of lines.
 use crate::telling::Telling;
 use edge_io::LINE_LIMIT;
 use name_tables::NAME_LIMIT;
 use problem_core::REQUIRED;
 use session_undo::Session;
 use span_text::pieces::word_len;
-use tell_mend::{cause_place, cut, ends_in_word, long_place, own_place};
+use tell_finding::{cause_place, long_place, own_place};
+use tell_mend::{cut, ends_in_word};
 
-// Whether the text begins with a view's name of which no attribute is named.
+// Whether `rest` begins with a view's name without an attribute.
 fn is_bare_view(session: &Session, front: &[u8], rest: &[u8]) -> bool {
-    let (word, behind) = cut(rest, word_len(rest));
-    let is_whole = !ends_in_word(front) && !front.ends_with(b".") && !behind.starts_with(b".");
+    let (word, after) = cut(rest, word_len(rest));
+    let is_whole = !ends_in_word(front) && !front.ends_with(b".") && !after.starts_with(b".");
     let name = std::str::from_utf8(word).unwrap_or("");
     is_whole && session.state().tree().find(name).is_some()
 }
 
-// Where a view stands as a number must: in no view's brackets.
+// Where a view is in place of a number, outside a view's brackets.
 fn object_place(session: &Session, line: &[u8]) -> Option<usize> {
     let start = own_place(line);
     let mut is_inside = false;
@@ -29,23 +30,23 @@ fn object_place(session: &Session, line: &[u8]) -> Option<usize> {
     None
 }
 
-// Whether a priority stands at the text's beginning: a number, or a metric's name.
+// Whether the text begins with a priority: a number, or a metric's name.
 fn begins_with_rank(session: &Session, text: &[u8]) -> bool {
-    let (word, behind) = cut(text, word_len(text));
+    let (word, after) = cut(text, word_len(text));
     let word = std::str::from_utf8(word).unwrap_or("");
     let number = match (word.parse::<i64>(), session.state().metrics().get(word)) {
         (Ok(number), _) => number,
         (Err(_), Some(value)) if value.den() == 1 => value.num(),
         _ => 0,
     };
-    1 <= number && number <= REQUIRED as i64 && !behind.starts_with(b".")
+    1 <= number && number <= REQUIRED as i64 && !after.starts_with(b".")
 }
 
-// Where the `@` of no priority stands.
+// Where an `@` is that no priority follows.
 fn priority_place(session: &Session, line: &[u8]) -> Option<usize> {
     for (place, b) in line.iter().enumerate() {
-        let (_, behind) = cut(line, place.saturating_add(1));
-        if *b == b'@' && !begins_with_rank(session, behind.trim_ascii_start()) {
+        let (_, after) = cut(line, place.saturating_add(1));
+        if *b == b'@' && !begins_with_rank(session, after.trim_ascii_start()) {
             return Some(place);
         }
     }
@@ -53,8 +54,8 @@ fn priority_place(session: &Session, line: &[u8]) -> Option<usize> {
 }
 
 impl Telling<'_> {
-    /// Where a cause shows, by the words that name it and by what shows it.
-    pub fn cause_place(&self, words: &str, mark: &str) -> usize {
+    /// Where a cause shows, by the words that name it in the reply and by its mark.
+    pub(crate) fn cause_place(&self, words: &str, mark: &str) -> usize {
         let found = match words {
             "kind object" => object_place(self.session, self.line),
             "kind priority" => priority_place(self.session, self.line),

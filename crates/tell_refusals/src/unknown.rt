@@ -1,11 +1,10 @@
-// What is said of a name that nothing has.
+// The explanation of an unknown name.
 use crate::names::holder_of;
 use crate::telling::Telling;
 use session_undo::Session;
 use span_text::lines;
-use tell_mend::{
-    Near, Reader, Wanted, cut, group_of, is_attribute, rank_for, unknown_place, wanted_at,
-};
+use tell_finding::unknown_place;
+use tell_mend::{Near, Reader, Wanted, cut, group_of, is_attribute, rank_for, wanted_at};
 
 const PRIORITY: &[u8] =
     b"a priority is a number from 1 to 1000, or a metric's name; 750 is a strong wish, 250 a weak one";
@@ -18,7 +17,7 @@ const ITSELF: &[u8] = b" makes it, which is this one: before, nothing has the na
 
 const LATER: &[u8] = b" makes it: put that line in front of this one";
 
-// A name that nothing has, where it stands, and what must have it.
+// An unknown name, where it is in the line, and the kind of thing wanted there.
 #[derive(Clone, Copy)]
 struct Lost<'a> {
     at: usize,
@@ -26,7 +25,7 @@ struct Lost<'a> {
     wanted: Wanted,
 }
 
-// Takes the view's name that is nearest.
+// Takes the names of views.
 fn take_views<'a>(reader: &mut Reader, near: &mut Near<'a>, session: &'a Session) {
     let tree = session.state().tree();
     for place in 0..tree.len() {
@@ -36,7 +35,7 @@ fn take_views<'a>(reader: &mut Reader, near: &mut Near<'a>, session: &'a Session
     }
 }
 
-// Takes the metric's name that is nearest.
+// Takes the names of metrics.
 fn take_metrics<'a>(reader: &mut Reader, near: &mut Near<'a>, session: &'a Session) {
     let metrics = session.state().metrics();
     for place in 0..metrics.len() {
@@ -46,7 +45,7 @@ fn take_metrics<'a>(reader: &mut Reader, near: &mut Near<'a>, session: &'a Sessi
     }
 }
 
-// Takes the name that is nearest of the groups that are held.
+// Takes the names of groups that have rows.
 fn take_groups<'a>(reader: &mut Reader, near: &mut Near<'a>, session: &Session, script: &'a [u8]) {
     for line in lines(script) {
         let group = group_of(line.bytes);
@@ -57,7 +56,7 @@ fn take_groups<'a>(reader: &mut Reader, near: &mut Near<'a>, session: &Session, 
 }
 
 impl<'a> Telling<'a> {
-    // The name of what is wanted that is most like this one, if one is like it; else an empty text.
+    // The most similar name of the kind wanted; empty if none is similar.
     fn nearest(&mut self, lost: Lost<'a>) -> &'a str {
         let mut near = Near::new(lost.name);
         if lost.wanted.is_view() {
@@ -72,7 +71,7 @@ impl<'a> Telling<'a> {
         near.name()
     }
 
-    // Says which name is most like this one, if one is, and gives it.
+    // Says which name is most similar, if one is, and returns it.
     fn put_nearest(&mut self, cure: &mut Vec<u8>, lost: Lost<'a>) -> &'a str {
         let near = self.nearest(lost);
         if !near.is_empty() {
@@ -82,7 +81,7 @@ impl<'a> Telling<'a> {
         near
     }
 
-    // Of a name behind `@`: what there is to be said, and what is to stand for it.
+    // Explains a name after `@`, and returns its replacement.
     fn put_priority(&mut self, cure: &mut Vec<u8>, lost: Lost<'a>) -> &'a str {
         let rank = rank_for(lost.name);
         let near = if rank.is_empty() {
@@ -96,7 +95,7 @@ impl<'a> Telling<'a> {
         near
     }
 
-    // Says what became of the line of this number, which was to make it, or will make it.
+    // Says that the line of this number makes such a thing, and why there is none.
     fn put_maker(&mut self, cure: &mut Vec<u8>, number: usize) {
         self.reader.put(cure, b"line ");
         self.reader.put_count(cure, number);
@@ -109,7 +108,7 @@ impl<'a> Telling<'a> {
         }
     }
 
-    // Says how such a thing is made; or that the name is an attribute's, where a number must stand.
+    // Says how such a thing is made, or that the name is an attribute's and a number is wanted.
     fn put_how(&mut self, cure: &mut Vec<u8>, lost: Lost<'a>) {
         if lost.wanted.is_number() && is_attribute(&mut self.reader, lost.name) {
             return self.reader.put(cure, ATTRIBUTE);
@@ -120,7 +119,7 @@ impl<'a> Telling<'a> {
         self.reader.put(cure, behind.as_bytes());
     }
 
-    // Says of what other kind the name is.
+    // Says that the name belongs to another kind of thing.
     fn put_other(&mut self, cure: &mut Vec<u8>, lost: Lost<'a>, kind: &str) {
         self.reader
             .put_all(cure, &[b"`", lost.name.as_bytes(), b"` is "]);
@@ -130,7 +129,7 @@ impl<'a> Telling<'a> {
         self.reader.put(cure, b" must stand there");
     }
 
-    // What there is to be said of the name, and what is to stand for it; an empty text where nothing is.
+    // Explains the name, and returns its replacement; empty if there is none.
     fn put_advice(&mut self, cure: &mut Vec<u8>, lost: Lost<'a>) -> &'a str {
         if let Wanted::Priority = lost.wanted {
             return self.put_priority(cure, lost);
@@ -152,7 +151,7 @@ impl<'a> Telling<'a> {
         }
     }
 
-    // Puts the line forward with this word in place of the name.
+    // Suggests the line with this word in place of the name.
     fn set_named(&mut self, lost: Lost<'a>, word: &str) {
         let (front, rest) = cut(self.line, lost.at);
         let texts = [front, word.as_bytes(), cut(rest, lost.name.len()).1];
@@ -162,15 +161,15 @@ impl<'a> Telling<'a> {
         drop(line);
     }
 
-    /// Says what there is to be said of a name that nothing has.
-    pub fn set_unknown(&mut self, name: &'a str) {
+    /// Explains an unknown name.
+    pub(crate) fn set_unknown(&mut self, name: &'a str) {
         let at = unknown_place(self.line, name.as_bytes());
         let wanted = wanted_at(self.line, at, name.as_bytes());
         let lost = Lost { at, name, wanted };
         let mut cure = Vec::new(self.alloc());
         let word = self.put_advice(&mut cure, lost);
-        self.set_place(at);
-        self.set_cure(&cure);
+        self.finding.set_place(self.line, at);
+        self.finding.set_cure(&cure);
         if !word.is_empty() {
             self.set_named(lost, word);
         }

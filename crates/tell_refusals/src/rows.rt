@@ -1,13 +1,13 @@
-// Rows in words, and the lines that they come from.
-use crate::finding::Finding;
+// Rows as relations, and the lines that they are from.
 use crate::telling::Telling;
 use frac_core::Wide;
-use problem_core::{REQUIRED, Row, Term};
+use problem_core::{REQUIRED, Row, Term, row_of};
 use reply_texts::push_attr;
 use session_undo::Session;
+use tell_finding::Finding;
 use tell_mend::{Reader, Word, line_at, word_of};
 
-// The sign in front of a term.
+// The sign before a term.
 fn sign_of(term: &Term, is_first: bool) -> &'static [u8] {
     match (is_first, term.by < 0) {
         (true, false) => b"",
@@ -38,11 +38,8 @@ fn put_terms(reader: &mut Reader, out: &mut Vec<u8>, session: &Session, terms: &
     }
 }
 
-// Appends a row as a relation.
-fn put_row(reader: &mut Reader, out: &mut Vec<u8>, session: &Session, row: &Row) {
-    put_terms(reader, out, session, row.terms());
-    reader.put_all(out, &[b" ", row.rel().word().as_bytes(), b" "]);
-    reader.put_frac(out, Wide::from(row.constant()));
+// Appends the scale and the priority of a row, unless they are the usual ones.
+fn put_weight(reader: &mut Reader, out: &mut Vec<u8>, row: &Row) {
     if row.scale() != 1 {
         reader.put(out, b", both sides times ");
         reader.put_number(out, row.scale());
@@ -53,38 +50,38 @@ fn put_row(reader: &mut Reader, out: &mut Vec<u8>, session: &Session, row: &Row)
     }
 }
 
-/// The row of this number, if it is there.
-pub fn row_of(rows: &[Row], id: u32) -> Option<&Row> {
-    for row in rows {
-        if row.id() == id {
-            return Some(row);
-        }
-    }
-    None
+// Appends a row as a relation.
+fn put_row(reader: &mut Reader, out: &mut Vec<u8>, session: &Session, row: &Row) {
+    put_terms(reader, out, session, row.terms());
+    reader.put_all(out, &[b" ", row.rel().word().as_bytes(), b" "]);
+    reader.put_frac(out, Wide::from(row.constant()));
+    put_weight(reader, out, row);
 }
 
-// Whether a row that is held has another constant in the problem of a line.
+// Whether the session has the row with another constant.
 fn is_moved(session: &Session, row: &Row) -> bool {
-    match row_of(session.engine().rows(), row.id()) {
+    let engine = session.engine();
+    engine.show_layout(); // for the proof: its rows have rising numbers
+    match row_of(engine.rows(), row.id()) {
         Some(held) => held.constant() != row.constant(),
         None => false,
     }
 }
 
-/// What a row comes from.
+/// The line that a row is from.
 #[derive(Clone, Copy)]
-pub struct Source {
-    /// The number of the line, and 0 for the window itself.
+pub(crate) struct Source {
+    /// The line's number; 0 for the window itself.
     pub number: usize,
-    /// The refused line.
+    /// Whether it is the refused line.
     pub is_own: bool,
-    /// A line that makes views, or the window: the row holds without being said.
+    /// Whether it makes views, or is the window. Then no line has to say the row.
     pub is_bound: bool,
 }
 
 impl Telling<'_> {
-    /// What the row of this number comes from.
-    pub fn source_of(&self, id: u32) -> Source {
+    /// The line that the row of this number is from.
+    pub(crate) fn source_of(&self, id: u32) -> Source {
         let owner = self.owners.of(id);
         let number = owner.unwrap_or(self.number);
         let is_own = owner.is_none();
@@ -99,7 +96,7 @@ impl Telling<'_> {
         }
     }
 
-    // Says from which line the row of this number is.
+    // Sets the line that the row of this number is from.
     fn set_source(&self, item: &mut Finding, id: u32) {
         let source = self.source_of(id);
         if source.is_bound {
@@ -111,7 +108,7 @@ impl Telling<'_> {
         }
     }
 
-    // Says what the row is, as the line has it.
+    // Sets the row as a relation, with the constant that it has with the refused line.
     fn set_row(&mut self, item: &mut Finding, row: &Row) {
         let mut words = Vec::new(self.alloc());
         put_row(&mut self.reader, &mut words, self.session, row);
@@ -122,8 +119,8 @@ impl Telling<'_> {
         drop(words);
     }
 
-    /// A multiplier and its row, in words and with the line that it is from.
-    pub fn item_of(&mut self, row: &Row, times: i64) -> Finding {
+    /// An object of a row: its multiplier, its line and its relation.
+    pub(crate) fn item_of(&mut self, row: &Row, times: i64) -> Finding {
         let mut item = Finding::new(self.alloc());
         item.set_number("times", times);
         self.set_source(&mut item, row.id());

@@ -1,21 +1,19 @@
-// What is said of a refused line.
-use crate::asked::Asked;
-use crate::finding::{Finding, put_json, text_of};
+// The explanation of a refused line.
 use crate::limits::put_why;
 use crate::owners::Owners;
-use crate::people::put_people;
 use crate::problem::{is_own, put_early};
 use frac_core::OutOfMemory;
 use session_undo::Session;
 use std::alloc::Global;
-use tell_mend::{
-    Reader, align_cure, before_sign, cause_of, char_count, cut, first_piece, form_of, parted,
+use tell_finding::{
+    Finding, align_cure, cause_of, form_of, put_json, put_people, shape_fault, text_of,
 };
+use tell_mend::{Reader, before_sign, cut, parted};
 
 const SUGGESTED: &[u8] = b"its priority is the first one's; `release` it first for another";
 
-/// A line of a script and its reply; what the line comes to: the session, and the lines that its rows are
-/// from; and what is said of it.
+/// A line of a script with its reply, the session that answered it, the lines that rows are from, and the
+/// finding, which has no members yet.
 #[derive(Drop)]
 pub struct Telling<'a> {
     pub reader: Reader,
@@ -29,49 +27,46 @@ pub struct Telling<'a> {
     pub reply: &'a [u8],
 }
 
-/// The first line of a reply.
-pub fn head_of(reply: &[u8]) -> &str {
+// The first line of a reply.
+fn head_of(reply: &[u8]) -> &str {
     std::str::from_utf8(parted(reply, b'\n').0).unwrap_or("")
 }
 
+// The words after `refused` and the number.
+fn cause_words(head: &str) -> &str {
+    let (_, words) = parted(parted(head.as_bytes(), b' ').1, b' ');
+    std::str::from_utf8(words).unwrap_or("")
+}
+
 impl<'a> Telling<'a> {
-    /// Where texts are kept.
-    pub fn alloc(&self) -> Global {
+    // The allocator of texts.
+    pub(crate) fn alloc(&self) -> Global {
         self.reader.alloc()
     }
 
-    /// Appends what is said, for whom it is asked for, if anything is.
-    pub fn put(self, asked: Asked, out: &mut Vec<u8>) -> Result<(), OutOfMemory> {
+    // Appends the finding as JSON or as text, unless there is nothing to say.
+    fn put(self, is_json: bool, out: &mut Vec<u8>) -> Result<(), OutOfMemory> {
         let (mut reader, finding) = (self.reader, self.finding);
         reader.fail_if(finding.is_short);
         let value = finding.value();
-        match asked {
+        match is_json {
             _ if text_of(&value, "reply").is_empty() => (),
-            Asked::Json => put_json(&mut reader, out, &value),
-            _ => put_people(&mut reader, out, &value),
+            true => put_json(&mut reader, out, &value),
+            false => put_people(&mut reader, out, &value),
         }
         drop(value);
         reader.done()
     }
 
-    /// Says where in the line it is: column and width count characters, the first of them is 1; the offset
-    /// counts bytes.
-    pub fn set_place(&mut self, at: usize) {
-        let (front, rest) = cut(self.line, at);
-        let column = char_count(front).saturating_add(1);
-        let width = char_count(first_piece(rest)).max(1);
-        self.finding.set_count("offset", at);
-        self.finding.set_count("column", column);
-        self.finding.set_count("width", width);
+    /// Explains the line, and appends the finding as JSON or as text. Appends nothing for an accepted line,
+    /// except the ambiguous attributes after `diagnose`.
+    pub fn explain(mut self, is_json: bool, out: &mut Vec<u8>) -> Result<(), OutOfMemory> {
+        self.set_all();
+        self.put(is_json, out)
     }
 
-    /// Says how the line is cured.
-    pub fn set_cure(&mut self, cure: &[u8]) {
-        self.finding.set_lines("cure", cure);
-    }
-
-    /// Puts a line forward, and says by what it would be refused in its turn before anything is solved.
-    pub fn set_so(&mut self, text: &[u8]) {
+    /// Suggests a line. If that would be refused in turn before anything is solved, says so.
+    pub(crate) fn set_so(&mut self, text: &[u8]) {
         self.finding.set_text("mended", text);
         let mut reply = Vec::new(self.alloc());
         put_early(&mut self.reader, self.session, text, &mut reply);
@@ -81,7 +76,7 @@ impl<'a> Telling<'a> {
         drop(reply);
     }
 
-    // Says what the cause alone has to say, and where it shows.
+    // Sets what the cause means, and where it shows.
     fn set_cause(&mut self, words: &str) {
         let cause = cause_of(words);
         let mut why = Vec::new(self.alloc());
@@ -94,10 +89,11 @@ impl<'a> Telling<'a> {
         );
         self.finding.set_text("why", &why);
         drop(why);
-        self.set_place(self.cause_place(words, cause.mark));
+        let at = self.cause_place(words, cause.mark);
+        self.finding.set_place(self.line, at);
     }
 
-    // Says that a run stopped, if its problem can be printed.
+    // Says how to print the problem of a run that stopped, if it can be printed.
     fn set_stopped(&mut self) {
         if is_own(self.reply) {
             let mut cure = Vec::new(self.alloc());
@@ -105,14 +101,14 @@ impl<'a> Telling<'a> {
             self.reader.put_count(&mut cure, self.number);
             let rest = b"` prints its problem and path, for `layout check`";
             self.reader.put(&mut cure, rest);
-            self.set_cure(&cure);
+            self.finding.set_cure(&cure);
             drop(cure);
         }
     }
 
-    // Says that a later suggestion has no priority.
+    // Suggests a later suggestion without its priority.
     fn set_suggested(&mut self) {
-        self.set_cure(SUGGESTED);
+        self.finding.set_cure(SUGGESTED);
         let line = self.line;
         let front = cut(line, before_sign(line, b"@")).0;
         if front.len() < line.len() {
@@ -120,17 +116,25 @@ impl<'a> Telling<'a> {
         }
     }
 
-    // Says what more there is to be said of a wrong use.
+    // Sets where the tree has another shape than a tree's, and the cure.
+    fn set_shape(&mut self) {
+        if let Some(found) = shape_fault(&mut self.reader, self.line) {
+            self.finding.set_place(self.line, found.at);
+            self.finding.set_cure(found.cure.as_bytes());
+        }
+    }
+
+    // Explains a wrong use further.
     fn set_misuse(&mut self, word: &str) {
         match word {
-            "align" => self.set_cure(align_cure(self.line).as_bytes()),
+            "align" => self.finding.set_cure(align_cure(self.line).as_bytes()),
             "suggested" => self.set_suggested(),
             "tree" => self.set_shape(),
             _ => (),
         }
     }
 
-    // Says what only a refusal by this cause has to say.
+    // Sets what only a refusal for this cause has.
     fn set_more(&mut self, cause: &str, rest: &'a str) {
         match cause {
             "syntax" => self.set_syntax(rest.parse::<usize>().unwrap_or(0)),
@@ -143,23 +147,27 @@ impl<'a> Telling<'a> {
         }
     }
 
-    /// Says all that there is to be said of the line. The first line of a refusal is `refused`, a number, and
-    /// the words for the cause.
-    pub fn set_all(&mut self) {
-        let head = head_of(self.reply);
-        if !head.starts_with("refused ") {
-            return self.set_open();
-        }
-        let (_, words) = parted(parted(head.as_bytes(), b' ').1, b' ');
-        let words = std::str::from_utf8(words).unwrap_or("");
-        let (cause, rest) = words.split_once(' ').unwrap_or((words, ""));
+    // Sets the line, its number, the first line of its reply, and its command's form.
+    fn set_head(&mut self, head: &str) {
         self.finding.set_count("line", self.number);
         self.finding.set_text("text", self.line);
         self.finding.set_text("reply", head.as_bytes());
         if !self.line.trim_ascii_start().is_empty() {
             self.finding.set_text("form", form_of(self.line).as_bytes());
         }
+    }
+
+    // Sets the finding's members by the reply. The first line of a refusal is `refused`, a number, and the
+    // words for the cause.
+    fn set_all(&mut self) {
+        let head = head_of(self.reply);
+        if !head.starts_with("refused ") {
+            return self.set_open();
+        }
+        self.set_head(head);
+        let words = cause_words(head);
         self.set_cause(words);
+        let (cause, rest) = words.split_once(' ').unwrap_or((words, ""));
         self.set_more(cause, rest);
     }
 }

@@ -1,13 +1,13 @@
-// What would pin the attributes that could be elsewhere.
-use crate::finding::Finding;
+// The attributes that `diagnose` found ambiguous, and lines that pin them.
 use crate::telling::Telling;
 use frac_core::{Frac, Wide};
 use serde_json::Value;
 use session_undo::Session;
 use span_text::lines;
-use tell_mend::{Reader, put_pin};
+use tell_finding::{Finding, put_pin};
+use tell_mend::Reader;
 
-// The present value of an attribute, if a view has one of this name.
+// The present value of an attribute; none if there is no such attribute.
 fn value_of(session: &Session, attr: &str) -> Option<Frac> {
     let (name, word) = attr.split_once('.')?;
     let view = session.state().tree().find(name)?;
@@ -21,7 +21,7 @@ fn value_of(session: &Session, attr: &str) -> Option<Frac> {
     }
 }
 
-// The object of an attribute that could be elsewhere.
+// The object of an ambiguous attribute.
 fn item_of(reader: &mut Reader, session: &Session, attr: &str, reach: &str) -> Finding {
     let mut item = Finding::new(reader.alloc());
     let mut text = Vec::new(reader.alloc());
@@ -38,7 +38,7 @@ fn item_of(reader: &mut Reader, session: &Session, attr: &str, reach: &str) -> F
 }
 
 impl Telling<'_> {
-    // Appends the object of the attribute that a line of the reply says could be elsewhere, if it says so.
+    // Appends the object of the attribute in a reply's line `ambiguous ATTRIBUTE VALUE`.
     fn push_open(&mut self, items: &mut Vec<Value>, line: &[u8]) {
         let line = std::str::from_utf8(line).unwrap_or("");
         if let Some(rest) = line.strip_prefix("ambiguous ") {
@@ -48,9 +48,9 @@ impl Telling<'_> {
         }
     }
 
-    /// Says which attributes could be elsewhere by the reply to `diagnose`, each with its value, another one,
-    /// and what would pin it.
-    pub fn set_open(&mut self) {
+    /// Sets the ambiguous attributes of a reply to `diagnose`, each with its value, another one, and a line
+    /// that pins it.
+    pub(crate) fn set_open(&mut self) {
         let mut items = Vec::new(self.alloc());
         for line in lines(self.reply) {
             self.push_open(&mut items, line.bytes);

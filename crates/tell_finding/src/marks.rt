@@ -1,10 +1,11 @@
-// Where in its line a refusal shows.
-use crate::bytes::{before_sign, cut, find_word, word_start};
-use crate::words::{Word, word_of};
+// Where in its line a refusal shows: the byte that the caret is below.
+ghost use Rattle.std.specs.Prelude.{◌≤◌, length};
+
 use span_text::first_word;
 use span_text::pieces::{skip, word_len};
+use tell_mend::{Word, before_sign, cut, find_word, word_of, word_start};
 
-// The text behind its first word.
+// The text after its first word.
 fn behind_word(text: &[u8]) -> &[u8] {
     match first_word(text) {
         Some((_, rest)) => rest,
@@ -12,7 +13,7 @@ fn behind_word(text: &[u8]) -> &[u8] {
     }
 }
 
-// The text from a format's first sign on: what stands before are a group, an alignment and a direction.
+// The text from a format's first sign on, without a group, an alignment and a direction.
 fn format_of(text: &[u8]) -> &[u8] {
     match cut(text, before_sign(text, b":[|")).1 {
         b"" => text,
@@ -20,8 +21,10 @@ fn format_of(text: &[u8]) -> &[u8] {
     }
 }
 
-/// Where what stands behind the command's own words begins, and behind the group where one follows.
-pub fn own_place(line: &[u8]) -> usize {
+/// Where the text after the command's own words begins, or after the group's name if there is one.
+pub fn own_place(line: &[u8]) -> usize
+    ensures within { result ≤ length line.now }
+{
     let own = match word_of(line) {
         (Word::Vfl, rest) => format_of(rest),
         (Word::Constrain, rest) => behind_word(rest),
@@ -30,8 +33,10 @@ pub fn own_place(line: &[u8]) -> usize {
     line.len().saturating_sub(own.len())
 }
 
-// Where the first word begins.
-fn first_place(line: &[u8]) -> usize {
+// Where the first word begins; 0 in a blank line.
+fn first_place(line: &[u8]) -> usize
+    ensures within { result ≤ length line.now }
+{
     let words = skip(line);
     if words.is_empty() {
         0
@@ -40,8 +45,11 @@ fn first_place(line: &[u8]) -> usize {
     }
 }
 
-// Where the name stands behind the command's own words; or the view that it begins with; or the first word.
-fn place_of(line: &[u8], name: &[u8]) -> usize {
+// Where the name is after the command's own words. If it isn't there, where the view is that it begins with,
+// or else the first word.
+fn place_of(line: &[u8], name: &[u8]) -> usize
+    ensures within { result ≤ length line.now }
+{
     let from = own_place(line);
     let view = cut(name, before_sign(name, b".")).0;
     find_word(line, from, b"", name)
@@ -49,8 +57,10 @@ fn place_of(line: &[u8], name: &[u8]) -> usize {
         .unwrap_or(first_place(line))
 }
 
-/// Where the name stands that nothing has: in a tree under `in`, in a line `view` at its end.
-pub fn unknown_place(line: &[u8], name: &[u8]) -> usize {
+/// Where the unknown name is: in a tree after `in`, in a line `view` at its end.
+pub fn unknown_place(line: &[u8], name: &[u8]) -> usize
+    ensures within { result ≤ length line.now }
+{
     match word_of(line).0 {
         Word::Tree => find_word(line, 0, b"in", name).unwrap_or(first_place(line)),
         Word::View => word_start(line.trim_ascii_end()),
@@ -58,9 +68,11 @@ pub fn unknown_place(line: &[u8], name: &[u8]) -> usize {
     }
 }
 
-/// Where the name stands that is taken: in a tree that of the first such object, or of the one behind it
-/// where the tree has the name twice.
-pub fn taken_place(line: &[u8], name: &[u8], is_twice: bool) -> usize {
+/// Where the name is that is taken: in a tree the first object of that name, or the second if the tree itself
+/// has the name twice.
+pub fn taken_place(line: &[u8], name: &[u8], is_twice: bool) -> usize
+    ensures within { result ≤ length line.now }
+{
     if !matches!(word_of(line).0, Word::Tree) {
         return place_of(line, name);
     }
@@ -72,26 +84,32 @@ pub fn taken_place(line: &[u8], name: &[u8], is_twice: bool) -> usize {
     }
 }
 
-/// Where what stands behind the first word begins.
-pub fn argument_place(line: &[u8]) -> usize {
+/// Where the text after the first word begins.
+pub(crate) fn argument_place(line: &[u8]) -> usize
+    ensures within { result ≤ length line.now }
+{
     line.len()
         .saturating_sub(behind_word(line).trim_ascii_start().len())
 }
 
-// Where the attribute stands along which the views of a format are aligned.
-fn align_place(line: &[u8]) -> usize {
+// Where the attribute is by which a format aligns its views.
+fn align_place(line: &[u8]) -> usize
+    ensures within { result ≤ length line.now }
+{
     let rest = behind_word(behind_word(behind_word(line)));
     line.len().saturating_sub(rest.trim_ascii_start().len())
 }
 
-// Whether the first view behind a bar is the window.
+// Whether the first view after a bar is the window.
 fn begins_with_window(text: &[u8]) -> bool {
     let view = cut(text, before_sign(text, b"[").saturating_add(1)).1;
     view.trim_ascii_start().starts_with(b"window")
 }
 
-// Where the bar beside the window stands: the first one, or the last.
-fn bar_place(line: &[u8]) -> usize {
+// Where the bar beside the window is: the first bar or the last.
+fn bar_place(line: &[u8]) -> usize
+    ensures within { result ≤ length line.now }
+{
     let first = before_sign(line, b"|");
     if begins_with_window(cut(line, first).1) {
         return first;
@@ -99,8 +117,10 @@ fn bar_place(line: &[u8]) -> usize {
     line.iter().rposition(|b| *b == b'|').unwrap_or(first)
 }
 
-/// Where a word stands that has more bytes than this; or the line's first word.
-pub fn long_place(line: &[u8], most: usize) -> usize {
+/// Where a word of more than `most` bytes begins, or else the first word.
+pub fn long_place(line: &[u8], most: usize) -> usize
+    ensures within { result ≤ length line.now }
+{
     for place in 0..line.len() {
         if word_len(cut(line, place).1) > most {
             return place;
@@ -109,8 +129,8 @@ pub fn long_place(line: &[u8], most: usize) -> usize {
     first_place(line)
 }
 
-/// Where the text stands in quotes from this place on, or this place.
-pub fn quoted_place(line: &[u8], start: usize, text: &[u8]) -> usize {
+/// Where the text is right after a `"`, at `start` or to the right of it; `start` if it isn't there.
+pub(crate) fn quoted_place(line: &[u8], start: usize, text: &[u8]) -> usize {
     for at in start..line.len() {
         let (front, rest) = cut(line, at);
         if front.ends_with(b"\"") && rest.starts_with(text) && !text.is_empty() {
@@ -120,8 +140,10 @@ pub fn quoted_place(line: &[u8], start: usize, text: &[u8]) -> usize {
     start
 }
 
-/// Where a cause shows, by the words that name it and by what shows it; or the first word.
-pub fn cause_place(line: &[u8], words: &str, mark: &str) -> usize {
+/// Where a cause shows, by the words that name it in the reply and by its mark; or the first word.
+pub fn cause_place(line: &[u8], words: &str, mark: &str) -> usize
+    ensures within { result ≤ length line.now }
+{
     match words {
         "kind align" => align_place(line),
         "kind parent" => bar_place(line),
@@ -131,7 +153,7 @@ pub fn cause_place(line: &[u8], words: &str, mark: &str) -> usize {
     }
 }
 
-/// What is said of an alignment that runs along its format.
+/// The cure of an alignment that runs along its format.
 pub fn align_cure(line: &[u8]) -> &'static str {
     if find_word(line, 0, b"", b"V:").is_some() {
         "behind V: that is `left`, `right` or `centerX`; the others are for H:"

@@ -1,14 +1,15 @@
-// What is said of a name that something else has.
+// The explanation of a name that is taken.
 use crate::telling::Telling;
 use session_undo::Session;
 use span_text::lines;
-use tell_mend::{makes_view, taken_place};
+use tell_finding::taken_place;
+use tell_mend::makes_view;
 
 const TWICE: &[u8] =
     b"this tree has the name twice; names are one space, whatever the views are in";
 
-/// What has the name; an empty text where nothing has.
-pub fn holder_of(session: &Session, name: &str) -> &'static str {
+/// The kind of thing that has the name; empty if none has.
+pub(crate) fn holder_of(session: &Session, name: &str) -> &'static str {
     if session.state().tree().find(name).is_some() {
         "a view"
     } else if session.state().metrics().get(name).is_some() {
@@ -19,7 +20,7 @@ pub fn holder_of(session: &Session, name: &str) -> &'static str {
 }
 
 impl Telling<'_> {
-    // Says which view has the name: the last line that made one of this name, or none did.
+    // Says which view has the name: that of the last accepted line for such a view, or the window.
     fn set_view_line(&mut self, name: &[u8]) {
         let (mut number, mut found): (usize, usize) = (0, 0);
         for line in lines(self.script) {
@@ -29,24 +30,25 @@ impl Telling<'_> {
             }
         }
         if found == 0 {
-            return self.set_cure(b"it is the window's");
+            return self.finding.set_cure(b"it is the window's");
         }
         let mut cure = Vec::new(self.alloc());
         self.reader.put(&mut cure, b"line ");
         self.reader.put_count(&mut cure, found);
         self.reader.put(&mut cure, b" makes a view of this name");
-        self.set_cure(&cure);
+        self.finding.set_cure(&cure);
         drop(cure);
     }
 
-    /// Says what there is to be said of a name that is taken.
-    pub fn set_taken(&mut self, name: &str) {
+    /// Explains a name that is taken.
+    pub(crate) fn set_taken(&mut self, name: &str) {
         let holder = holder_of(self.session, name);
         match holder {
             "a view" => self.set_view_line(name.as_bytes()),
-            "a metric" => self.set_cure(b"a metric has this name"),
-            _ => self.set_cure(TWICE),
+            "a metric" => self.finding.set_cure(b"a metric has this name"),
+            _ => self.finding.set_cure(TWICE),
         }
-        self.set_place(taken_place(self.line, name.as_bytes(), holder.is_empty()));
+        let at = taken_place(self.line, name.as_bytes(), holder.is_empty());
+        self.finding.set_place(self.line, at);
     }
 }
