@@ -28,7 +28,7 @@ use Rattle.corner_laws.proofs.Swaps.DualChoice.{unused-IsLevelSum}
 use Rattle.corner_laws.proofs.PathEnds.Ends.{all_up, decided, satisfies_there}
 use Rattle.corner_laws.proofs.LevelCosts.Equal.{writing-sum}
 use Rattle.corner_laws.proofs.MarkWritings.LowestForms.{marks_are_fixed}
-use Rattle.corner_ends.specs.Views.{IsKeptCorner, IsStronger}
+use Rattle.corner_view.specs.Seen.{IsKeptCorner, IsStronger}
 use Rattle.corner_ends.specs.Runs.{IsBestEnd}
 use Rattle.corner_ends.proofs.Fronts.{some_line}
 use Rattle.corner_ends.proofs.Signs.{columns_alike}

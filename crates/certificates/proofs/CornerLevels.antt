@@ -16,14 +16,13 @@ use Rattle.problem_core.specs.Layout.{Problem, lines}
 use Rattle.cert_core.specs.declared.by.By.{By}
 use Rattle.cert_core.specs.Claims.{BestLevel, IsLevel, IsRanked}
 use Rattle.cert_checker.specs.LinePlaces.{names}
-use Rattle.corner_ends.specs.Views.{IsInUse, IsKeptCorner, IsStronger}
+use Rattle.corner_view.specs.Seen.{IsInUse, IsKeptCorner, IsStronger}
 use Rattle.certificates.specs.OwnLevels.{HasNoNeed, IsOwnBest, IsOwnLevel, multiplied, nonzero_times}
 use Rattle.certificates.specs.Reading.{AreNumbersAt, IsPushed}
 use Rattle.certificates.proofs.Factors.{no_factor}
 use Rattle.certificates.proofs.MultiplierLists.{DifferentRows, all_different, each_line, multiplied_different, names_different, none_written, nonzero_different}
 use Rattle.certificates.proofs.Numbers.{numbers_exist}
-use Rattle.corner_writings.proofs.Basics.SmallFacts.{positive_is}
-use Rattle.corner_writings.proofs.LevelFacts.LevelUseFacts.{used_level as used_is_level}
+use Rattle.corner_view.proofs.Facts.{positive_is, used_level as used_is_level}
 
 -- ---- one level
 

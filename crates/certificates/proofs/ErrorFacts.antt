@@ -27,7 +27,7 @@ use Rattle.corner_laws.proofs.LevelCosts.Gaps.{shares}
 use Rattle.corner_laws.proofs.LevelCosts.LevelExists.{cost_fixed}
 use Rattle.corner_laws.proofs.MarkWritings.LowestForms.{marks_are_fixed}
 use Rattle.corner_laws.proofs.ZeroColumns.{scales-above}
-use Rattle.corner_ends.specs.Views.{HasValueAt}
+use Rattle.corner_view.specs.Seen.{HasValueAt}
 use Rattle.certificates.specs.Errors.{IsErrorAt, IsLack, IsLevelCost}
 use Rattle.certificates.proofs.Certified.{values_up}
 use Rattle.corner_lines.proofs.Lines.LineWritings.{all-small as lines-small}

@@ -17,7 +17,7 @@ use Rattle.corner_laws.proofs.LevelCosts.Equal.{numbers_are_equal}
 use Rattle.corner_laws.proofs.LevelCosts.LevelExists.{level_writing_exists}
 use Rattle.cert_core.specs.declared.by.By.{By}
 use Rattle.cert_checker.specs.LinePlaces.{names}
-use Rattle.corner_ends.specs.Views.{HasNumbers, IsKeptCorner, IsLevelOf, IsNamed}
+use Rattle.corner_view.specs.Seen.{HasNumbers, IsKeptCorner, IsLevelOf, IsNamed}
 use Rattle.certificates.specs.OwnLevels.{nonzero_times}
 use Rattle.certificates.specs.Reading.{AreNumbersAt}
 use Rattle.certificates.proofs.MultiplierLists.{nonzero_append}

@@ -15,7 +15,7 @@ use Rattle.cert_checker.specs.LineSums.{line_count}
 use Rattle.cert_checker.proofs.Certificates.Columns.{stay-line}
 use Rattle.cert_checker.proofs.Indexes.{length-lines, no_stay, stay_name}
 use Rattle.cert_checker.proofs.Certificates.Levels.{level-same, low-level, past-rows, priority-same, priority-stay, stay-has, stay-level, stay-place}
-use Rattle.corner_ends.specs.Views.{IsInUse}
+use Rattle.corner_view.specs.Seen.{IsInUse}
 use Rattle.corner_ends.proofs.Fronts.{level_named}
 use Rattle.corner_lines.proofs.LevelRows.StayRows.{level_one}
 

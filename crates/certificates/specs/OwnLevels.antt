@@ -10,7 +10,7 @@ use Rattle.problem_core.specs.Levels.{IsLevelAt, IsLevelWriting}
 use Rattle.cert_core.specs.declared.by.By.{By}
 use Rattle.cert_core.specs.Claims.{BestLevel}
 use Rattle.cert_checker.specs.LinePlaces.{names}
-use Rattle.corner_ends.specs.Views.{HasNumbers, IsInUse, IsStronger}
+use Rattle.corner_view.specs.Seen.{HasNumbers, IsInUse, IsStronger}
 
 -- the multipliers that are not 0, in the order of the names
 abbrev pub nonzero_times : (RowName → ℤ) → List RowName → List By

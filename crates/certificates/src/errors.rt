@@ -7,7 +7,7 @@ ghost use Rattle.problem_core.specs.Corners.{NoNegativeValue, Point, StandsAt, a
 ghost use Rattle.problem_core.specs.Layout.{line_of_row};
 ghost use Rattle.certificates.specs.Errors.{IsErrorAt, IsLack};
 
-use corner_ends::Corner;
+use corner_view::{Corner, Tableau};
 use frac_core::{Frac, Wide, product};
 use problem_core::{Mark, Rel, Row, RowName, Side};
 
@@ -47,7 +47,7 @@ fn over_scale(f: Frac, scale: i64) -> Wide
 }
 
 /// The error of a row, in points, at a corner where no value is negative.
-pub fn error(c: &Corner, row: &Row) -> Wide
+pub fn error<T: Tableau>(c: &Corner<T>, row: &Row) -> Wide
     requires held { Any (λ r. r ≡ row.now) c.now.problem.rows }
     requires values { NoNegativeValue c.now.problem c.now.marks }
     ensures error { (x : Point) → StandsAt c.now.problem c.now.marks x

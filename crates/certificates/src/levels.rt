@@ -4,7 +4,7 @@ ghost use Rattle.problem_core.specs.Certificates.{IsCertificate};
 ghost use Rattle.problem_core.specs.Corners.{Point, StandsAt, assignment_at};
 ghost use Rattle.cert_core.specs.Claims.{multipliers_of};
 ghost use Rattle.cert_checker.specs.Certifying.{Balances};
-ghost use Rattle.corner_ends.specs.Views.{IsInUse, IsStronger};
+ghost use Rattle.corner_view.specs.Seen.{IsInUse, IsStronger};
 ghost use Rattle.corner_ends.specs.Runs.{IsBestEnd};
 ghost use Rattle.certificates.specs.OwnLevels.{IsOwnBest};
 ghost use Rattle.certificates.specs.Reading.{IsPushed};
@@ -12,13 +12,18 @@ ghost use Rattle.certificates.specs.Reading.{IsPushed};
 use crate::shares::{common_factor, share, shares};
 use crate::times::{scale, times};
 use cert_core::Best;
-use corner_ends::Corner;
+use corner_view::{Corner, Tableau};
 use frac_core::OutOfMemory;
 use problem_core::Level;
 use std::alloc::Global;
 
 // Puts a level's numbers at the end, where a multiplier is not 0.
-fn push_level(alloc: Global, best: &mut Best, c: &Corner, level: Level) -> Result<(), OutOfMemory>
+fn push_level<T: Tableau>(
+    alloc: Global,
+    best: &mut Best,
+    c: &Corner<T>,
+    level: Level,
+) -> Result<(), OutOfMemory>
     requires level { IsInUse c.now.problem level }
     requires stronger { All (λ l. IsStronger c.now.problem l.level level) best.old }
     ensures { OnOk result (IsPushed c.now.problem c.now.marks level best.old best.new) }
@@ -36,7 +41,7 @@ fn push_level(alloc: Global, best: &mut Best, c: &Corner, level: Level) -> Resul
 /// The certificate that a corner with the best values is: the multipliers of its levels, strongest first,
 /// each level's scale and multipliers divided by the factor that they share. A level whose multipliers are
 /// all 0 is left out.
-pub fn certificate(alloc: Global, c: &Corner) -> Result<Best, OutOfMemory>
+pub fn certificate<T: Tableau>(alloc: Global, c: &Corner<T>) -> Result<Best, OutOfMemory>
     requires end { IsBestEnd c.now.problem c.now.marks }
     ensures own { IfOk result (IsOwnBest c.now.problem c.now.marks) }
     ensures balanced { IfOk result (Balances c.now.problem) }

@@ -3,18 +3,18 @@ ghost use Rattle.std.specs.Prelude.{◌≡◌, ◌++◌, ℕ, ℤ, [], ◌∷◌
 ghost use Rattle.frac_core.specs.Fraction.{IsFitting};
 ghost use Rattle.problem_core.specs.declared.parts.RowName.{RowName as NameOfRow};
 ghost use Rattle.cert_checker.specs.LinePlaces.{names};
-ghost use Rattle.corner_ends.specs.Views.{IsInUse, IsNamed};
+ghost use Rattle.corner_view.specs.Seen.{IsInUse, IsNamed};
 ghost use Rattle.certificates.specs.OwnLevels.{nonzero_times};
 ghost use Rattle.certificates.specs.Reading.{AreNumbersAt};
 
 use cert_core::By;
-use corner_ends::Corner;
+use corner_view::{Corner, Tableau};
 use frac_core::OutOfMemory;
 use problem_core::{Level, RowName};
 use std::alloc::Global;
 
 /// The scale of a level.
-pub(crate) fn scale(c: &Corner, level: Level) -> i64
+pub(crate) fn scale<T: Tableau>(c: &Corner<T>, level: Level) -> i64
     requires level { IsInUse c.now.problem level }
     ensures value { (scale : ℕ) (times : NameOfRow → ℤ)
         → AreNumbersAt c.now.problem c.now.marks level scale times → result ≡ pos scale }
@@ -26,7 +26,7 @@ pub(crate) fn scale(c: &Corner, level: Level) -> i64
 }
 
 // The multiplier of a row or stay at a level.
-fn multiplier(c: &Corner, level: Level, row: RowName) -> i64
+fn multiplier<T: Tableau>(c: &Corner<T>, level: Level, row: RowName) -> i64
     requires level { IsInUse c.now.problem level }
     requires row { IsNamed c.now.problem row }
     ensures value { (scale : ℕ) (times : NameOfRow → ℤ)
@@ -38,7 +38,12 @@ fn multiplier(c: &Corner, level: Level, row: RowName) -> i64
 }
 
 // Appends the multiplier of a row or stay, where it is not 0.
-fn push_times(out: &mut Vec<By>, c: &Corner, level: Level, row: RowName) -> Result<(), OutOfMemory>
+fn push_times<T: Tableau>(
+    out: &mut Vec<By>,
+    c: &Corner<T>,
+    level: Level,
+    row: RowName,
+) -> Result<(), OutOfMemory>
     requires level { IsInUse c.now.problem level }
     requires row { IsNamed c.now.problem row }
     ensures pushed { IfOk result (λ _. (scale : ℕ) (times : NameOfRow → ℤ)
@@ -55,7 +60,11 @@ fn push_times(out: &mut Vec<By>, c: &Corner, level: Level, row: RowName) -> Resu
 }
 
 /// The multipliers of a level that are not 0, in the order of the lines.
-pub(crate) fn times(alloc: Global, c: &Corner, level: Level) -> Result<Vec<By>, OutOfMemory>
+pub(crate) fn times<T: Tableau>(
+    alloc: Global,
+    c: &Corner<T>,
+    level: Level,
+) -> Result<Vec<By>, OutOfMemory>
     requires level { IsInUse c.now.problem level }
     ensures value { IfOk result (λ out. (scale : ℕ) (times : NameOfRow → ℤ)
         → AreNumbersAt c.now.problem c.now.marks level scale times

@@ -5,7 +5,7 @@ use Rattle.problem_core.specs.Layout.{Problem}
 use Rattle.problem_core.specs.Kept.{IsWhole}
 use Rattle.cert_core.specs.declared.stops.RunStop.{RunStop}
 use Rattle.cert_core.specs.declared.stops.RunStop.TheVariants as run
-use Rattle.corner.specs.Changes.{FromAdded}
+use Rattle.corner_view.specs.AddStops.{FromAdded}
 use Rattle.corner_laws.specs.Laws.{IsConflict}
 use Rattle.corner_laws.proofs.PathEnds.Complete.{stops_are_conflicts}
 use Rattle.conflict_core.specs.Cores.{AreRequired, trial}

@@ -9,9 +9,9 @@ use Rattle.problem_core.specs.declared.limits.TheConstants.{REQUIRED}
 use Rattle.problem_core.specs.Layout.{HasStay, Problem, Row}
 use Rattle.problem_core.specs.Kept.{IsWhole}
 use Rattle.problem_core.specs.Numbers.{AreNumbersOf}
-use Rattle.corner.specs.Shifts.Shifting.{IsNear}
+use Rattle.corner_view.specs.Changes.{IsNear}
 use Rattle.corner_lines.specs.Shifts.{IsShift, has_constant, with_constant}
-use Rattle.corner_table.proofs.Seen.ShiftedLines.{shift_whole}
+use Rattle.corner_view.proofs.Seen.ShiftedLines.{shift_whole}
 use Rattle.layout_solver.proofs.BestValues.{attrs-at}
 use Rattle.corner_lines.proofs.ProblemChanges.Shifted.{changed, same-id, shift-off, shift-on}
 use Rattle.layout_solver.specs.declared.engine.Change.{Change}

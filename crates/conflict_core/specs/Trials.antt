@@ -4,7 +4,7 @@ use Rattle.problem_core.specs.Layout.{Problem}
 use Rattle.cert_core.specs.Stops.{IsShownConflict, IsStopOf}
 use Rattle.cert_core.specs.declared.stops.RunStop.{RunStop}
 use Rattle.cert_core.specs.declared.stops.RunStop.TheVariants as run
-use Rattle.corner.specs.Changes.{FromAdded}
+use Rattle.corner_view.specs.AddStops.{FromAdded}
 use Rattle.layout_solver.specs.Layouts.{Layout}
 use Rattle.conflict_core.specs.Cores.{AreRequired, trial}
 use Rattle.conflict_core.specs.Shown.{IsSolution}

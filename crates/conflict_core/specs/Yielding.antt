@@ -3,7 +3,7 @@ use Rattle.std.specs.Prelude.{◌≡◌, ℕ, List, [], ◌∷◌, length, All, 
 use Rattle.frac_core.specs.Fraction.{IsKept}
 use Rattle.problem_core.specs.Layout.{Problem, Row}
 use Rattle.problem_core.specs.declared.parts.Stay.{Stay}
-use Rattle.corner.specs.Shifts.Shifting.{IsNear}
+use Rattle.corner_view.specs.Changes.{IsNear}
 use Rattle.layout_solver.specs.declared.engine.Change.{Change}
 use Rattle.layout_solver.specs.Layouts.{Layout}
 use Rattle.layout_solver.specs.Shifts.{shifted}

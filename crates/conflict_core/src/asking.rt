@@ -7,6 +7,7 @@ ghost use Rattle.layout_solver.specs.Requests.{CanSolve, IsRequestStop, posed_by
 ghost use Rattle.conflict_core.specs.Asking.{IsKnown};
 
 use cert_core::Conflict;
+use corner_view::Tableau;
 use frac_core::OutOfMemory;
 use layout_solver::{Engine, Request, RequestStop};
 
@@ -32,7 +33,11 @@ fn stopped(stop: RequestStop) -> Result<Known, OutOfMemory>
 }
 
 /// What is known of the request's problem after the engine tried to solve it. The engine does not change.
-pub(crate) fn asked(e: &mut Engine, request: &Request, budget: u64) -> Result<Known, OutOfMemory>
+pub(crate) fn asked<T: Tableau>(
+    e: &mut Engine<T>,
+    request: &Request,
+    budget: u64,
+) -> Result<Known, OutOfMemory>
     requires room { length e.old.earlier < VERSION_LIMIT }
     requires can { CanSolve e.old request.now }
     ensures known { IfOk result (IsKnown (posed_by e.old request.now)) }

@@ -16,12 +16,13 @@ use crate::search::{begun, searched};
 use crate::trials::{Outcome, Trials, tried};
 use crate::yielding::hasten;
 use cert_core::Conflict;
+use corner_view::Tableau;
 use layout_solver::{Engine, Request};
 use problem_core::{Problem, numbers_of};
 use std::alloc::Global;
 
 // A core of the rows that these multipliers name. They refute some required rows.
-fn found_among(e: &mut Engine, t: &Trials, by: Conflict) -> Result<Found, CoreStop>
+fn found_among<T: Tableau>(e: &mut Engine<T>, t: &Trials, by: Conflict) -> Result<Found, CoreStop>
     requires nothing { e.old ≡ nothing }
     requires trials { AreTrials t.now }
     requires refuted { (ids : List ℕ) × IsShownConflict (trial t.now.problem.now ids) by }
@@ -30,12 +31,12 @@ fn found_among(e: &mut Engine, t: &Trials, by: Conflict) -> Result<Found, CoreSt
 {
     t.problem.show_whole(); // for the proof: what a problem keeps
     let mut s = begun(t.alloc, by)?;
-    hasten(t, &mut s)?;
+    hasten::<T>(t, &mut s)?;
     searched(e, t, s)
 }
 
 // The outcome for all required rows, which are these.
-fn found_of(e: &mut Engine, t: &Trials, all: &[u32]) -> Result<Found, CoreStop>
+fn found_of<T: Tableau>(e: &mut Engine<T>, t: &Trials, all: &[u32]) -> Result<Found, CoreStop>
     requires nothing { e.old ≡ nothing }
     requires trials { AreTrials t.now }
     requires all { all.now ≡ map (λ r. r.id) (required t.now.problem.now) }
@@ -50,26 +51,26 @@ fn found_of(e: &mut Engine, t: &Trials, all: &[u32]) -> Result<Found, CoreStop>
 }
 
 // The same on a new engine.
-fn found_anew(t: &Trials, all: &[u32]) -> Result<Found, CoreStop>
+fn found_anew<T: Tableau>(t: &Trials, all: &[u32]) -> Result<Found, CoreStop>
     requires trials { AreTrials t.now }
     requires all { all.now ≡ map (λ r. r.id) (required t.now.problem.now) }
     ensures found { IfOk result (IsFound t.now.problem.now) }
     ensures stop { IfErr result (IsCoreStop t.now.problem.now t.now.budget) }
 {
-    let mut engine = Engine::new(t.alloc)?;
+    let mut engine = Engine::<T>::new(t.alloc)?;
     let found = found_of(&mut engine, t, all);
     drop(engine); // for the proof: moved on, not taken apart here
     found
 }
 
 // A core of the rows that these multipliers name, on a new engine.
-fn found_anew_among(t: &Trials, by: Conflict) -> Result<Found, CoreStop>
+fn found_anew_among<T: Tableau>(t: &Trials, by: Conflict) -> Result<Found, CoreStop>
     requires trials { AreTrials t.now }
     requires refuted { (ids : List ℕ) × IsShownConflict (trial t.now.problem.now ids) by }
     ensures found { IfOk result (IsFound t.now.problem.now) }
     ensures stop { IfErr result (IsCoreStop t.now.problem.now t.now.budget) }
 {
-    let mut engine = Engine::new(t.alloc)?;
+    let mut engine = Engine::<T>::new(t.alloc)?;
     let found = found_among(&mut engine, t, by);
     drop(engine); // for the proof: moved on, not taken apart here
     found
@@ -80,7 +81,7 @@ fn found_anew_among(t: &Trials, by: Conflict) -> Result<Found, CoreStop>
 ///
 /// `Unfit` and `Spent` are those of one trial, which adds the rows that are named as held to an empty engine,
 /// with the whole budget.
-pub fn core(alloc: Global, p: &Problem, budget: u64) -> Result<Found, CoreStop>
+pub fn core<T: Tableau>(alloc: Global, p: &Problem, budget: u64) -> Result<Found, CoreStop>
     ensures found { IfOk result (IsFound p.now) }
     ensures stop { IfErr result (IsCoreStop p.now budget) }
 {
@@ -95,14 +96,19 @@ pub fn core(alloc: Global, p: &Problem, budget: u64) -> Result<Found, CoreStop>
         numbers: &numbers,
         budget,
     };
-    found_anew(&trials, &all)
+    found_anew::<T>(&trials, &all)
 }
 
 /// A core of the rows that these multipliers name. They refute the problem, which saves the trial of all
 /// required rows.
 ///
 /// The stops are those of `core`.
-pub fn core_among(alloc: Global, p: &Problem, by: Conflict, budget: u64) -> Result<Found, CoreStop>
+pub fn core_among<T: Tableau>(
+    alloc: Global,
+    p: &Problem,
+    by: Conflict,
+    budget: u64,
+) -> Result<Found, CoreStop>
     requires shown { IsShownConflict p.now by }
     ensures found { IfOk result (IsFound p.now) }
     ensures stop { IfErr result (IsCoreStop p.now budget) }
@@ -117,7 +123,7 @@ pub fn core_among(alloc: Global, p: &Problem, by: Conflict, budget: u64) -> Resu
         numbers: &numbers,
         budget,
     };
-    found_anew_among(&trials, by)
+    found_anew_among::<T>(&trials, by)
 }
 
 /// The same as `core` for the problem of a request to an engine. The engine is asked first, because its path
@@ -125,9 +131,9 @@ pub fn core_among(alloc: Global, p: &Problem, by: Conflict, budget: u64) -> Resu
 /// begins from nothing. The engine does not change.
 ///
 /// The stops are those of `core`.
-pub fn core_of(
+pub fn core_of<T: Tableau>(
     alloc: Global,
-    e: &mut Engine,
+    e: &mut Engine<T>,
     request: Request,
     budget: u64,
 ) -> Result<Found, CoreStop>
@@ -139,7 +145,7 @@ pub fn core_of(
 {
     match asked(e, &request, budget)? {
         Known::Solvable => Ok(Found::Solvable),
-        Known::Refuted(by) => core_among(alloc, &e.posed(request)?, by, budget),
-        Known::Nothing => core(alloc, &e.posed(request)?, budget),
+        Known::Refuted(by) => core_among::<T>(alloc, &e.posed(request)?, by, budget),
+        Known::Nothing => core::<T>(alloc, &e.posed(request)?, budget),
     }
 }

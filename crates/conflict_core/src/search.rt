@@ -13,6 +13,7 @@ use crate::found::{CoreStop, Found};
 use crate::listing::{named, without};
 use crate::trials::{Outcome, Trials, tried};
 use cert_core::Conflict;
+use corner_view::Tableau;
 use frac_core::OutOfMemory;
 use layout_solver::Engine;
 use problem_core::{Problem, Values};
@@ -60,7 +61,7 @@ fn narrow(alloc: Global, s: &mut Search, by: Conflict) -> Result<(), OutOfMemory
 }
 
 // Tries the rows without the next one that has no values yet.
-fn step(e: &mut Engine, t: &Trials, s: &mut Search) -> Result<(), CoreStop>
+fn step<T: Tableau>(e: &mut Engine<T>, t: &Trials, s: &mut Search) -> Result<(), CoreStop>
     requires nothing { e.old ≡ nothing }
     requires trials { AreTrials t.now }
     requires search { IsSearch t.now.problem.now s.old }
@@ -80,7 +81,11 @@ fn step(e: &mut Engine, t: &Trials, s: &mut Search) -> Result<(), CoreStop>
 }
 
 /// The core to which a search comes.
-pub(crate) fn searched(e: &mut Engine, t: &Trials, mut s: Search) -> Result<Found, CoreStop>
+pub(crate) fn searched<T: Tableau>(
+    e: &mut Engine<T>,
+    t: &Trials,
+    mut s: Search,
+) -> Result<Found, CoreStop>
     requires nothing { e.old ≡ nothing }
     requires trials { AreTrials t.now }
     requires search { IsSearch t.now.problem.now s }

@@ -12,6 +12,7 @@ ghost use Rattle.conflict_core.specs.Searches.{AreTrials};
 use crate::found::CoreStop;
 use crate::listing::tried_rows;
 use cert_core::Conflict;
+use corner_view::Tableau;
 use frac_core::{Frac, OutOfMemory};
 use layout_solver::{Engine, Request, RequestStop};
 use problem_core::{Problem, Values};
@@ -43,7 +44,7 @@ pub(crate) fn copied(alloc: Global, ids: &[u32]) -> Result<Vec<u32>, OutOfMemory
 }
 
 // Adds all attributes and the rows of these numbers to an empty engine.
-fn add_rows(e: &mut Engine, t: &Trials, ids: &[u32]) -> Result<(), RequestStop>
+fn add_rows<T: Tableau>(e: &mut Engine<T>, t: &Trials, ids: &[u32]) -> Result<(), RequestStop>
     requires nothing { e.old ≡ nothing }
     requires trials { AreTrials t.now }
     requires rising { AllPairs (λ a b. a < b) ids.now }
@@ -60,7 +61,7 @@ fn add_rows(e: &mut Engine, t: &Trials, ids: &[u32]) -> Result<(), RequestStop>
 }
 
 // The value of an attribute.
-fn value_of(e: &Engine, attr: u32) -> Frac
+fn value_of<T: Tableau>(e: &Engine<T>, attr: u32) -> Frac
     requires { HasStay e.now.problem.stays attr }
     ensures { result ≡ value_of e.now.values attr }
 {
@@ -69,7 +70,11 @@ fn value_of(e: &Engine, attr: u32) -> Frac
 }
 
 /// The values of these attributes, which rise.
-pub(crate) fn values_of(alloc: Global, e: &Engine, attrs: &[u32]) -> Result<Values, OutOfMemory>
+pub(crate) fn values_of<T: Tableau>(
+    alloc: Global,
+    e: &Engine<T>,
+    attrs: &[u32],
+) -> Result<Values, OutOfMemory>
     requires held { All (HasStay e.now.problem.stays) attrs.now }
     requires rising { AllPairs (λ a b. a < b) attrs.now }
     ensures { IfOk result (λ values. values ≡ map (λ a. (a, value_of e.now.values a)) attrs.now) }
@@ -82,7 +87,7 @@ pub(crate) fn values_of(alloc: Global, e: &Engine, attrs: &[u32]) -> Result<Valu
 }
 
 // The values of these attributes, which rise, on an engine that goes back to the layout before.
-fn taken(alloc: Global, e: &mut Engine, attrs: &[u32]) -> Result<Values, OutOfMemory>
+fn taken<T: Tableau>(alloc: Global, e: &mut Engine<T>, attrs: &[u32]) -> Result<Values, OutOfMemory>
     requires marked { 0 < length e.old.earlier }
     requires held { All (HasStay e.old.problem.stays) attrs.now }
     requires rising { AllPairs (λ a b. a < b) attrs.now }
@@ -118,7 +123,11 @@ fn outcome_of(alloc: Global, ids: &[u32], stop: RequestStop) -> Result<Outcome, 
 /// The outcome for these required rows. The engine is empty, and does not change.
 ///
 /// `Unfit` and `Spent` are those of [`Engine::solve`] for adding these rows.
-pub(crate) fn tried(e: &mut Engine, t: &Trials, ids: &[u32]) -> Result<Outcome, CoreStop>
+pub(crate) fn tried<T: Tableau>(
+    e: &mut Engine<T>,
+    t: &Trials,
+    ids: &[u32],
+) -> Result<Outcome, CoreStop>
     requires nothing { e.old ≡ nothing }
     requires trials { AreTrials t.now }
     requires rows { AreRequired t.now.problem.now ids.now }

@@ -11,6 +11,7 @@ use crate::listing::tried_rows;
 use crate::search::Search;
 use crate::trials::{Trials, copied, values_of};
 use cert_core::Conflict;
+use corner_view::Tableau;
 use frac_core::{Frac, OutOfMemory, PART_BOUND};
 use layout_solver::{Change, Engine, Request, RequestStop};
 use problem_core::{Row, RowName, row_of};
@@ -147,8 +148,8 @@ fn all_changed(alloc: Global, rows: &[Row], to: &Change) -> Result<Vec<Row>, Out
 }
 
 // Adds all attributes and the rows to an empty engine. One row gives way.
-fn begin(
-    e: &mut Engine,
+fn begin<T: Tableau>(
+    e: &mut Engine<T>,
     t: &Trials,
     s: &Search,
     rows: Vec<Row>,
@@ -173,7 +174,12 @@ fn both(alloc: Global, first: &Change, next: &Change) -> Result<Vec<Change>, Out
 }
 
 // Gives two rows other constants, and forgets the layout before that.
-fn shift_both(e: &mut Engine, t: &Trials, first: &Change, next: &Change) -> Result<(), RequestStop>
+fn shift_both<T: Tableau>(
+    e: &mut Engine<T>,
+    t: &Trials,
+    first: &Change,
+    next: &Change,
+) -> Result<(), RequestStop>
     requires earlier { length e.old.earlier ≡ 1 }
     requires held { CanShift e.old.problem (first.now ∷ next.now ∷ []) }
     requires rising { first.now.row < next.now.row }
@@ -201,7 +207,14 @@ fn may_get_both(rows: &[Row], first: &Change, next: &Change) -> bool
 
 // The row that gave way gets its own constant again, and the next one gives way. Returns whether the run
 // ends. It has six parameters: three say what the engine holds, and two rows change.
-fn is_next(e: &mut Engine, t: &Trials, s: &Search, rows: &[Row], last: &Change, to: &Change) -> bool
+fn is_next<T: Tableau>(
+    e: &mut Engine<T>,
+    t: &Trials,
+    s: &Search,
+    rows: &[Row],
+    last: &Change,
+    to: &Change,
+) -> bool
     requires trials { AreTrials t.now }
     requires rows { rows.now ≡ (trial t.now.problem.now s.now.rows.items).rows }
     requires last { GivesWay t.now.problem.now s.now.rows.items last.now e.old }
@@ -234,7 +247,12 @@ fn next_yielded(s: &Search, clash: &Clash) -> Option<Change>
 }
 
 // Keeps the values of an engine in which the next row gives way.
-fn keep_values(e: &Engine, t: &Trials, s: &mut Search, to: &Change) -> Result<(), OutOfMemory>
+fn keep_values<T: Tableau>(
+    e: &Engine<T>,
+    t: &Trials,
+    s: &mut Search,
+    to: &Change,
+) -> Result<(), OutOfMemory>
     requires trials { AreTrials t.now }
     requires search { IsSearch t.now.problem.now s.old }
     requires next { IsNext s.old to.now.row }
@@ -250,8 +268,8 @@ fn keep_values(e: &Engine, t: &Trials, s: &mut Search, to: &Change) -> Result<()
 }
 
 // Goes on from the row that gave way last to the others, as long as the runs end.
-fn go_on(
-    e: &mut Engine,
+fn go_on<T: Tableau>(
+    e: &mut Engine<T>,
     t: &Trials,
     s: &mut Search,
     clash: &Clash,
@@ -279,8 +297,8 @@ fn go_on(
 }
 
 // The first row gives way on an empty engine, then the others.
-fn give_way_from(
-    e: &mut Engine,
+fn give_way_from<T: Tableau>(
+    e: &mut Engine<T>,
     t: &Trials,
     s: &mut Search,
     clash: &Clash,
@@ -303,7 +321,7 @@ fn give_way_from(
 }
 
 // The same on a new engine.
-fn give_way_anew(
+fn give_way_anew<T: Tableau>(
     t: &Trials,
     s: &mut Search,
     clash: &Clash,
@@ -316,14 +334,14 @@ fn give_way_anew(
     requires search { IsSearch t.now.problem.now s.old }
     ensures search { IfOk result (λ _. IsSearch t.now.problem.now s.new) }
 {
-    let mut engine = Engine::new(t.alloc)?;
+    let mut engine = Engine::<T>::new(t.alloc)?;
     let given = give_way_from(&mut engine, t, s, clash, first);
     drop(engine); // for the proof: moved on, not taken apart here
     given
 }
 
 // The rows give way in turn, as long as numbers fit and the runs end.
-fn give_way(t: &Trials, s: &mut Search, rows: &[Row]) -> Result<(), OutOfMemory>
+fn give_way<T: Tableau>(t: &Trials, s: &mut Search, rows: &[Row]) -> Result<(), OutOfMemory>
     requires trials { AreTrials t.now }
     requires rows { rows.now ≡ (trial t.now.problem.now s.old.rows.items).rows }
     requires next { length s.old.without.items < length s.old.rows.items }
@@ -338,11 +356,11 @@ fn give_way(t: &Trials, s: &mut Search, rows: &[Row]) -> Result<(), OutOfMemory>
     let Some(first) = next_yielded(s, &clash) else {
         return Ok(());
     };
-    give_way_anew(t, s, &clash, &first)
+    give_way_anew::<T>(t, s, &clash, &first)
 }
 
 /// Finds values without each row, as far as one engine shows them in which the rows give way in turn.
-pub(crate) fn hasten(t: &Trials, s: &mut Search) -> Result<(), OutOfMemory>
+pub(crate) fn hasten<T: Tableau>(t: &Trials, s: &mut Search) -> Result<(), OutOfMemory>
     requires trials { AreTrials t.now }
     requires search { IsSearch t.now.problem.now s.old }
     ensures search { IfOk result (λ _. IsSearch t.now.problem.now s.new) }
@@ -351,5 +369,5 @@ pub(crate) fn hasten(t: &Trials, s: &mut Search) -> Result<(), OutOfMemory>
     if s.without.len() >= s.rows.len() {
         return Ok(());
     }
-    give_way(t, s, &rows)
+    give_way::<T>(t, s, &rows)
 }

@@ -11,10 +11,10 @@ use Rattle.problem_core.specs.Window.{zero_fraction}
 use Rattle.problem_core.specs.Corners.{place}
 use Rattle.corner_table.specs.Kept.{IsKept}
 use Rattle.corner_table.specs.Tables.{Lists, is_side, line_slot, marks_at, problem_of, standing_at, stands_in}
-use Rattle.corner_table.specs.Views.{HasValueAt, IsNamed}
-use Rattle.corner_table.proofs.Readings.ReadFacts.{named_in, value_inside, value_outside}
-use Rattle.corner_writings.specs.Lows.{HasValueUp}
-use Rattle.corner.specs.Lows.{AreNotLow, IsLowMark}
+use Rattle.corner_view.specs.Seen.{HasValueAt, IsNamed}
+use Rattle.corner_view.proofs.Facts.{named_in}
+use Rattle.corner_table.proofs.Readings.ReadFacts.{value_inside, value_outside}
+use Rattle.corner_view.specs.Lows.{AreNotLow, HasValueUp, IsLowMark}
 
 own-side : (side : Side) → is_side (Some side) side ≡ true
 own-side Under = refl

@@ -5,7 +5,7 @@ use Rattle.problem_core.specs.Corners.{Swap}
 use Rattle.corner_exchange.specs.Swaps.Exchanges.{IsPair, marks_after}
 use Rattle.corner_exchange.specs.Swaps.TurnedLevels.{IsTurn}
 use Rattle.corner_table.specs.Tables.{Lists, problem_of}
-use Rattle.corner_table.specs.Views.{AreCandidates}
+use Rattle.corner_view.specs.Seen.{AreCandidates}
 use Rattle.corner_writings.specs.declared.levels.Pair.{Pair}
 
 -- it is an exchange of the pair, after which no outside mark has a negative column

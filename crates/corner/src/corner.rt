@@ -1,48 +1,23 @@
 // A problem and one of its corners.
-mod moved;
-
-ghost use Rattle.std.specs.Prelude.{◌≡◌, ◌≢◌, ◌<◌, ◌≤◌, ◌↔◌, ◌-◌, ◌+◌, ℕ, List, [], ◌∷◌, pos, length};
-ghost use Rattle.std.specs.Prelude.{false, take, true, All, AllPairs, Any, Contains, IfOk, IfErr, IfSome};
-ghost use Rattle.std.specs.Prelude.{IfNone};
-ghost use Rattle.std.specs.Prelude.{OnErr, OnOk, slice_get, Some};
+ghost use Rattle.std.specs.Prelude.{◌≡◌, ◌≢◌, ◌<◌, ◌≤◌, ◌↔◌, ◌-◌, ◌+◌, List, [], ◌∷◌, length};
+ghost use Rattle.std.specs.Prelude.{true, All, IfErr};
+ghost use Rattle.std.specs.Prelude.{OnOk};
 ghost use Rattle.problem_core.specs.Layout.{HasStay};
 ghost use Rattle.problem_core.specs.Kept.{IsWhole, IsNumber};
-ghost use Rattle.problem_core.specs.Corners as corners;
-ghost use Rattle.problem_core.specs.Corners.{IsExchange, IsIn, NoNegativeValue, SameMarks, attr_column};
-ghost use Rattle.problem_core.specs.Corners.{exchanged};
+ghost use Rattle.problem_core.specs.Corners.{NoNegativeValue};
 ghost use Rattle.frac_core.specs.declared.memory.Stop.TheVariants.{OutOfMemory as NoMemory};
-ghost use Rattle.problem_core.specs.Changes.Begins.{BeginsWith, without_marks};
+ghost use Rattle.problem_core.specs.Changes.Begins.{BeginsWith};
 ghost use Rattle.problem_core.specs.declared.limits.TheConstants.{ROW_LIMIT};
 ghost use Rattle.problem_core.specs.Layout as layout;
-ghost use Rattle.problem_core.specs.declared.parts.RowName.TheVariants as row_names;
-ghost use Rattle.problem_core.specs.Levels.{IsCostAt, IsLevelAt};
-ghost use Rattle.problem_core.specs.declared.parts.Level as level_type;
-ghost use Rattle.problem_core.specs.declared.parts.RowName as row_type;
-ghost use Rattle.problem_core.specs.declared.stops.What as what_type;
-ghost use Rattle.problem_core.specs.declared.stops.What.TheVariants.{Mark as MarkOf};
-ghost use Rattle.version_lists.specs.declared.versions.TheConstants.{VERSION_LIMIT};
-ghost use Rattle.corner.specs.Views.{AreCandidates, AreFrontsOf, AreMovers, HasNoFront, HasNumbers};
-ghost use Rattle.corner_writings.specs.Entries.{AreEntries};
-ghost use Rattle.corner_writings.specs.Growing.{AreGrowersDear};
-ghost use Rattle.corner_writings.specs.Lows.{ListsLow};
-ghost use Rattle.corner.specs.Views.{HasValueAt};
-ghost use Rattle.corner.specs.Views.{IsCoefficientOf, IsFrontOf, IsInUse};
-ghost use Rattle.corner.specs.Views.{IsKeptCorner, IsLevelOf, IsMarkOf, IsNamed, IsOutside, IsReducedAt};
-ghost use Rattle.corner.specs.Views.{IsScaleOf, IsSettled};
-ghost use Rattle.corner.specs.Views.{IsStronger, IsWritten, MovesWith};
-ghost use Rattle.corner.specs.Changes.{AllSumsFit, HasNoNegative, HasStood, IsAddStop, IsAsBefore};
-ghost use Rattle.corner.specs.Changes.{IsRewound};
-ghost use Rattle.corner.specs.Changes.{IsUnfitStop, scene_of};
-ghost use Rattle.corner.specs.Lows.{AreNotLow, IsLowMark};
+ghost use Rattle.corner_view.specs.AddStops.{AllSumsFit, IsAddStop};
+ghost use Rattle.corner_view.specs.Changes.{IsAsBefore, IsRewound};
+ghost use Rattle.corner_view.specs.Stops.{IsUnfitStop};
 ghost use Rattle.corner.specs.Settled.{IsSettledAt, IsSettledBy};
 ghost use Rattle.corner_shifts.specs.Astray.{NoneGoesAstray};
 ghost use Rattle.corner.specs.Known.{AreKnown};
 ghost use Rattle.corner_table.specs.declared.table.TheConstants.{LEVELS};
 ghost use Rattle.corner_laws.specs.Lifts.{with_rows};
 ghost use Rattle.corner_lines.specs.Joins.{with_attr};
-ghost use Rattle.corner_shifts.specs.Shifting.{IsNear};
-ghost use Rattle.corner_lines.specs.Removals.{IsFree, without_attr, without_row};
-ghost use Rattle.corner_lines.specs.Shifts.{with_constant};
 ghost use Rattle.corner_exchange.specs.Swaps.NextLists.{AreMarksBy, AreMarksTurned};
 ghost use Rattle.corner_exchange.specs.Swaps.Exchanges.{CanExchange, IsPairStop};
 ghost use Rattle.corner_exchange.specs.Swaps.TurnedLevels.{CanTurnTo, IsTurnStop};
@@ -50,7 +25,6 @@ ghost use Rattle.corner_leaving.specs.Leaving.{IsLeaver, marks_left, problem_lef
 ghost use Rattle.corner_table.specs.Tables as tables;
 ghost use Rattle.corner_table.specs.Tables.{Lists, lists_of, marks_at, problem_of};
 ghost use Rattle.corner_table.specs.Histories.{AreAlike, lists_before};
-ghost use Rattle.stay_orders.specs.Orders.{fronted};
 ghost use Rattle.corner_table.specs.Invariants.{IsConsistent, IsEarlier, names_of, seen_of, view_of};
 ghost use Rattle.corner_table.specs.Kept.{HasSlotsLeft};
 
@@ -65,12 +39,13 @@ use corner_orders::put_front;
 use corner_packing::pack;
 use corner_table::{
     Listed, Table, attr_slot, back, forget, is_crowded, is_level, level_slot, line_slot, mark,
-    marks_with, name_at, new_table, other, rewind, slot_at,
+    marks_with, moved_attrs, name_at, new_table, other, rewind, slot_at,
 };
+use corner_view::{Front, Fronts, Tableau};
 use corner_writings::{
-    Front, Fronts, Pair, are_growers_dear, attr_value, coefficient, cost_at, denominator,
-    entries_in, entry_in, front_of, fronts_of, is_inside, is_stronger, list_low, mark_value, mover,
-    movers, reduced_at, scale_at, times_at, used,
+    Pair, are_growers_dear, attr_value, coefficient, cost_at, denominator, entries_in, entry_in,
+    front_of, fronts_of, is_inside, is_stronger, list_low, mark_value, mover, movers, reduced_at,
+    scale_at, times_at, used,
 };
 use frac_core::{Frac, OutOfMemory, Stop};
 use problem_core::{Level, Mark, Row, RowName, Side, Stay, TableStop, What};
@@ -408,7 +383,7 @@ fn are_of_line(a: Mark, b: Mark) -> bool
 }
 
 impl Model for Corner {
-    ghost use Rattle.corner.specs.Views.{CornerView};
+    ghost use Rattle.corner_view.specs.Seen.{CornerView};
     ghost use Rattle.corner_table.specs.Tables.{lists_of};
     ghost use Rattle.corner_table.specs.Invariants.{IsConsistent, view_of};
     ghost use Rattle.corner.specs.Known.{AreKnown};
@@ -420,17 +395,10 @@ impl Model for Corner {
     ghost invariant = { λ c. IsConsistent c.table c.listed × AreKnown (lists_of c.table) c.known };
 }
 
-impl Corner {
-    /// The corner of no attribute and no row.
-    pub fn new(alloc: Global) -> Result<Corner, OutOfMemory>
-        ensures { IfOk result (λ c. c ≡ record {
-          problem = record { rows = []; stays = [] };
-          marks = [];
-          before = [];
-          candidates = [];
-          order = [];
-        }) }
-    {
+impl Tableau for Corner {
+    ghost seen = { λ c. c };
+
+    fn new(alloc: Global) -> Result<Corner, OutOfMemory> {
         let table = new_table(alloc)?;
         let listed = Listed::new(alloc);
         let known = nothing_known(alloc);
@@ -441,271 +409,121 @@ impl Corner {
         })
     }
 
-    /// Shows what each corner keeps.
-    pub fn show_corner(&self)
-        ensures kept { IsKeptCorner self.now.problem self.now.marks }
-        ensures candidates { AreCandidates self.now.problem self.now.marks self.now.candidates }
-        ensures named { All (IsNamed self.now.problem) self.now.candidates }
-        ensures before { All IsSettled self.now.before }
-    {
+    fn show_corner(&self) {
         let _ = &self.table; // for the proof: what a corner keeps
     }
 
-    /// The rows, by rising number.
-    pub fn rows(&self) -> &[Row]
-        ensures { result.now ≡ self.now.problem.rows }
-    {
+    fn rows(&self) -> &[Row] {
         self.table.rows.as_slice()
     }
 
-    /// The stays, strongest first.
-    pub fn stays(&self) -> &[Stay]
-        ensures { result.now ≡ self.now.problem.stays }
-    {
+    fn stays(&self) -> &[Stay] {
         self.table.stays.as_slice()
     }
 
-    /// The marks inside, by row number with the stays last.
-    pub fn marks(&self) -> Result<Vec<Mark>, OutOfMemory>
-        ensures { IfOk result (λ marks. marks.items ≡ self.now.marks) }
-    {
+    fn marks(&self) -> Result<Vec<Mark>, OutOfMemory> {
         marks_with(&self.table, &[])
     }
 
-    /// Whether the mark is inside.
-    pub fn is_inside(&self, mark: Mark) -> bool
-        requires mark { IsMarkOf self.now.problem mark }
-        ensures { (result ≡ true) ↔ IsIn (corners.place mark) self.now.marks }
-    {
+    fn is_inside(&self, mark: Mark) -> bool {
         is_inside(&self.table, mark)
     }
 
-    /// The value of a mark, which is 0 outside.
-    pub fn value(&self, mark: Mark) -> Frac
-        requires mark { IsMarkOf self.now.problem mark }
-        ensures { HasValueAt self.now.problem self.now.marks (corners.place mark) result }
-    {
+    fn value(&self, mark: Mark) -> Frac {
         mark_value(&self.table, mark)
     }
 
-    /// The inside mark of a row or stay, if its value is negative.
-    pub fn low_mark(&self, row: RowName) -> Option<Mark>
-        requires { IsNamed self.now.problem row }
-        ensures some { IfSome result (IsLowMark self.now.problem self.now.marks row) }
-        ensures none { IfNone result (AreNotLow self.now.problem self.now.marks row) }
-    {
+    fn low_mark(&self, row: RowName) -> Option<Mark> {
         low_mark(&self.table, row)
     }
 
-    /// The value of an attribute.
-    pub fn attr_value(&self, attr: u32) -> Frac
-        requires attr { HasStay self.now.problem.stays attr }
-        ensures { HasValueAt self.now.problem self.now.marks (attr_column attr) result }
-    {
+    fn attr_value(&self, attr: u32) -> Frac {
         attr_value(&self.table, attr)
     }
 
-    /// How many attributes and inside marks move where the outside mark grows alone.
-    pub fn movers(&self, mark: Mark) -> usize
-        requires outside { IsOutside self.now.problem self.now.marks mark }
-        ensures { (whats : List what_type.What) × AreMovers self.now mark whats × (length whats ≡ result) }
-    {
+    fn movers(&self, mark: Mark) -> usize {
         movers(&self.table, mark)
     }
 
-    /// One of the attributes and inside marks that move where the outside mark grows alone.
-    pub fn mover(&self, mark: Mark, i: usize) -> What
-        requires outside { IsOutside self.now.problem self.now.marks mark }
-        requires within { (whats : List what_type.What) × AreMovers self.now mark whats × (i < length whats) }
-        ensures { (whats : List what_type.What) → AreMovers self.now mark whats
-            → slice_get whats i ≡ Some result }
-    {
+    fn mover(&self, mark: Mark, i: usize) -> What {
         mover(&self.table, mark, i)
     }
 
-    /// How many outside lines have a number in the writing of the inside mark.
-    pub fn entries(&self, mark: Mark) -> usize
-        requires inside { IsIn (corners.place mark) self.now.marks }
-        ensures { (names : List row_type.RowName) × AreEntries self.now mark names × (length names ≡ result) }
-    {
+    fn entries(&self, mark: Mark) -> usize {
         entries_in(&self.table, mark)
     }
 
-    /// One of the outside lines that have a number in the writing of the inside mark.
-    pub fn entry(&self, mark: Mark, i: usize) -> RowName
-        requires inside { IsIn (corners.place mark) self.now.marks }
-        requires within { (names : List row_type.RowName) × AreEntries self.now mark names
-            × (i < length names) }
-        ensures { (names : List row_type.RowName) → AreEntries self.now mark names
-            → slice_get names i ≡ Some result }
-    {
+    fn entry(&self, mark: Mark, i: usize) -> RowName {
         entry_in(&self.table, mark, i)
     }
 
-    /// Whether all outside marks of other rows and stays with which the inside one grows have a reduced cost
-    /// above 0 at the level.
-    pub fn are_growers_dear(&self, mark: Mark, level: Level) -> bool
-        requires inside { IsIn (corners.place mark) self.now.marks }
-        requires level { IsLevelOf self.now.problem level }
-        ensures { result ≡ true → AreGrowersDear self.now.problem self.now.marks mark level }
-    {
+    fn are_growers_dear(&self, mark: Mark, level: Level) -> bool {
         if is_required(level) {
             return is_safe(&self.table, &self.known.safe, mark);
         }
         are_growers_dear(&self.table, mark, level)
     }
 
-    /// Lists the row or stay if its inside mark has a negative value; where it has none inside, those whose
-    /// inside marks move with its marks and have negative values.
-    pub fn list_low(&self, row: RowName, low: &mut Vec<RowName>) -> Result<(), OutOfMemory>
-        requires { IsNamed self.now.problem row }
-        ensures { OnOk result
-            (ListsLow self.now.problem self.now.marks row low.old.items low.new.items) }
-    {
+    fn list_low(&self, row: RowName, low: &mut Vec<RowName>) -> Result<(), OutOfMemory> {
         list_low(&self.table, row, low)
     }
 
-    /// The coefficient of an outside mark in the writing of an attribute or an inside mark.
-    pub fn coefficient(&self, what: What, mark: Mark) -> i64
-        requires what { IsWritten self.now.problem self.now.marks what }
-        requires outside { IsOutside self.now.problem self.now.marks mark }
-        ensures { IsCoefficientOf self.now.problem self.now.marks what mark result }
-    {
+    fn coefficient(&self, what: What, mark: Mark) -> i64 {
         coefficient(&self.table, what, mark)
     }
 
-    /// The scale of the writing of an attribute or an inside mark.
-    pub fn denominator(&self, what: What) -> i64
-        requires what { IsWritten self.now.problem self.now.marks what }
-        ensures { IsScaleOf self.now.problem self.now.marks what result }
-    {
+    fn denominator(&self, what: What) -> i64 {
         denominator(&self.table, what)
     }
 
-    /// The reduced cost of a mark at a level, which is 0 inside.
-    pub fn reduced(&self, level: Level, mark: Mark) -> i64
-        requires level { IsLevelOf self.now.problem level }
-        requires mark { IsMarkOf self.now.problem mark }
-        ensures { IsReducedAt self.now.problem self.now.marks level mark result }
-    {
+    fn reduced(&self, level: Level, mark: Mark) -> i64 {
         reduced_at(&self.table, level_slot(&self.table, level), mark)
     }
 
-    /// The first level at which the mark's reduced cost is not 0, with this cost.
-    pub fn front(&self, mark: Mark) -> Option<Front>
-        requires mark { IsMarkOf self.now.problem mark }
-        ensures some { IfSome result (IsFrontOf self.now.problem self.now.marks mark) }
-        ensures none { IfNone result (HasNoFront self.now.problem self.now.marks mark) }
-    {
+    fn front(&self, mark: Mark) -> Option<Front> {
         front_of(&self.table, mark)
     }
 
-    /// The fronts of both marks of a line.
-    pub fn fronts(&self, row: RowName) -> Fronts
-        requires { IsNamed self.now.problem row }
-        ensures { AreFrontsOf self.now.problem self.now.marks row result }
-    {
+    fn fronts(&self, row: RowName) -> Fronts {
         fronts_of(&self.table, row)
     }
 
-    /// The multiplier of a row or stay at a level.
-    pub fn multiplier(&self, level: Level, row: RowName) -> i64
-        requires level { IsLevelOf self.now.problem level }
-        requires row { IsNamed self.now.problem row }
-        ensures { HasNumbers self.now.problem self.now.marks level
-            (λ scale times reduced. result ≡ times row) }
-    {
+    fn multiplier(&self, level: Level, row: RowName) -> i64 {
         let line = line_slot(&self.table, row);
         times_at(&self.table, level_slot(&self.table, level), line)
     }
 
-    /// The scale of a level.
-    pub fn scale(&self, level: Level) -> i64
-        requires level { IsLevelOf self.now.problem level }
-        ensures { HasNumbers self.now.problem self.now.marks level
-            (λ scale times reduced. result ≡ pos scale) }
-    {
+    fn scale(&self, level: Level) -> i64 {
         scale_at(&self.table, level_slot(&self.table, level))
     }
 
-    /// The cost of a level.
-    pub fn cost(&self, level: Level) -> Frac
-        requires level { IsLevelOf self.now.problem level }
-        ensures { (k : ℕ) → IsLevelAt self.now.problem level k
-            → IsCostAt self.now.problem self.now.marks k result }
-    {
+    fn cost(&self, level: Level) -> Frac {
         cost_at(&self.table, level_slot(&self.table, level))
     }
 
-    /// The levels at which a row or a stay stands, strongest first.
-    pub fn levels(&self) -> Result<Vec<Level>, OutOfMemory>
-        ensures used { IfOk result (λ levels. All (IsInUse self.now.problem) levels.items) }
-        ensures all { IfOk result (λ levels. (level : level_type.Level) → IsInUse self.now.problem level
-            → Contains levels.items level) }
-        ensures order { IfOk result (λ levels. AllPairs (IsStronger self.now.problem) levels.items) }
-    {
+    fn levels(&self) -> Result<Vec<Level>, OutOfMemory> {
         let mut out = Vec::new(self.table.alloc);
         used(&self.table, &mut out)?;
         Ok(out)
     }
 
-    /// Whether the first level is stronger.
-    pub fn is_stronger(&self, a: Level, b: Level) -> bool
-        requires a { IsLevelOf self.now.problem a }
-        requires b { IsLevelOf self.now.problem b }
-        ensures yes { result ≡ true → IsStronger self.now.problem a b }
-        ensures no { result ≡ false → (j k : ℕ) → IsLevelAt self.now.problem a j
-            → IsLevelAt self.now.problem b k → k ≤ j }
-    {
+    fn is_stronger(&self, a: Level, b: Level) -> bool {
         is_stronger(&self.table, a, b)
     }
 
-    /// How many lines are listed as those that may have a negative column.
-    pub fn candidates(&self) -> usize
-        ensures { result ≡ length self.now.candidates }
-    {
+    fn candidates(&self) -> usize {
         self.listed.len()
     }
 
-    /// One of the listed lines.
-    pub fn candidate(&self, i: usize) -> RowName
-        requires { i < length self.now.candidates }
-        ensures { slice_get self.now.candidates i ≡ Some result }
-    {
+    fn candidate(&self, i: usize) -> RowName {
         name_at(&self.table, self.listed.slot(i))
     }
 
-    /// Takes a line off the list, neither of whose marks has a negative column.
-    pub fn unlist(&mut self, i: usize)
-        requires within { i < length self.old.candidates }
-        requires settled { (name : row_type.RowName) → slice_get self.old.candidates i ≡ Some name
-            → HasNoNegative self.old.problem self.old.marks name }
-        ensures scene { scene_of self.new ≡ scene_of self.old }
-        ensures before { self.new.before ≡ self.old.before }
-        ensures shorter { length self.new.candidates + 1 ≡ length self.old.candidates }
-    {
+    fn unlist(&mut self, i: usize) {
         self.listed.remove(i);
     }
 
-    /// Exchanges an outside mark for an inside one that moves with it.
-    ///
-    /// `Refused` names what does not fit at the new corner, and the corner is as before. After want of memory
-    /// it is that of the newest mark.
-    pub fn swap(&mut self, enter: Mark, leave: Mark) -> Result<(), TableStop>
-        requires marked { 0 < length self.old.before }
-        requires enter { IsOutside self.old.problem self.old.marks enter }
-        requires leave { IsIn (corners.place leave) self.old.marks }
-        requires moves { MovesWith self.old.problem self.old.marks enter (MarkOf leave) }
-        ensures problem { IfOk result (λ _. self.new.problem ≡ self.old.problem) }
-        ensures marks { IfOk result (λ _. SameMarks self.new.marks
-            (exchanged (record { enter = enter; leave = leave }) self.old.marks)) }
-        ensures before { self.new.before ≡ self.old.before }
-        ensures exchange { IsExchange self.old.problem self.old.marks
-            (record { enter = enter; leave = leave }) }
-        ensures stop { IfErr result (IsUnfitStop self.old.problem
-            (exchanged (record { enter = enter; leave = leave }) self.old.marks)) }
-        ensures same { IfErr result (IsAsBefore self.old self.new) }
-    {
+    fn swap(&mut self, enter: Mark, leave: Mark) -> Result<(), TableStop> {
         forget_known(&mut self.known);
         let line = line_slot(&self.table, enter.row);
         if are_of_line(enter, leave) {
@@ -719,26 +537,7 @@ impl Corner {
         exchange_lines(&mut self.table, &mut self.listed, pair)
     }
 
-    /// Exchanges an outside mark for an inside one that moves with it, where no outside mark has a negative
-    /// column after it.
-    ///
-    /// `Refused` names what does not fit at the new corner, and the corner is as before. After want of memory
-    /// it is that of the newest mark.
-    pub fn swap_settled(&mut self, enter: Mark, leave: Mark) -> Result<(), TableStop>
-        requires marked { 0 < length self.old.before }
-        requires enter { IsOutside self.old.problem self.old.marks enter }
-        requires leave { IsIn (corners.place leave) self.old.marks }
-        requires moves { MovesWith self.old.problem self.old.marks enter (MarkOf leave) }
-        requires settled { AreCandidates self.old.problem
-            (exchanged (record { enter = enter; leave = leave }) self.old.marks) [] }
-        ensures problem { IfOk result (λ _. self.new.problem ≡ self.old.problem) }
-        ensures marks { IfOk result (λ _. SameMarks self.new.marks
-            (exchanged (record { enter = enter; leave = leave }) self.old.marks)) }
-        ensures before { self.new.before ≡ self.old.before }
-        ensures stop { IfErr result (IsUnfitStop self.old.problem
-            (exchanged (record { enter = enter; leave = leave }) self.old.marks)) }
-        ensures same { IfErr result (IsAsBefore self.old self.new) }
-    {
+    fn swap_settled(&mut self, enter: Mark, leave: Mark) -> Result<(), TableStop> {
         let line = line_slot(&self.table, enter.row);
         if are_of_line(enter, leave) {
             return turn_safe(
@@ -758,19 +557,7 @@ impl Corner {
         exchange_settled(&mut self.table, &mut self.listed, pair)
     }
 
-    /// Adds an attribute that stands at this value, with its stay as the last one. After want of memory the
-    /// corner is that of the newest mark.
-    pub fn add_attr(&mut self, attr: u32, target: Frac) -> Result<(), OutOfMemory>
-        requires marked { 0 < length self.old.before }
-        requires number { IsNumber attr }
-        requires fresh { HasStay self.old.problem.stays attr → ⊥ }
-        requires room { length self.old.problem.stays < ROW_LIMIT }
-        ensures problem { IfOk result (λ _. self.new.problem ≡ with_attr attr target self.old.problem) }
-        ensures marks { IfOk result (λ _. self.new.marks ≡ self.old.marks) }
-        ensures before { self.new.before ≡ self.old.before }
-        ensures candidates { IfOk result (λ _. self.new.candidates ≡ self.old.candidates) }
-        ensures same { OnErr result (IsRewound self.old self.new) }
-    {
+    fn add_attr(&mut self, attr: u32, target: Frac) -> Result<(), OutOfMemory> {
         forget_known(&mut self.known);
         match join_attr(&mut self.table, &mut self.listed, attr, target) {
             Ok(()) => Ok(()),
@@ -781,24 +568,7 @@ impl Corner {
         }
     }
 
-    /// Adds rows, each with its mark that is not negative, over at 0. First all rows join, then the levels'
-    /// costs.
-    ///
-    /// `Unfit` names a sum of a row's terms, where it and the rows after it are over, or of a level's rows,
-    /// where all rows have joined; after `Ok` each of these sums fits. It answers no other stop but want of
-    /// memory. After a stop the corner is that of the newest mark.
-    pub fn add_rows(&mut self, rows: &[Row]) -> Result<(), RunStop>
-        requires marked { 0 < length self.old.before }
-        requires whole { IsWhole (with_rows rows.now self.old.problem) }
-        requires values { NoNegativeValue self.old.problem self.old.marks }
-        ensures problem { IfOk result (λ _. self.new.problem ≡ with_rows rows.now self.old.problem) }
-        ensures marks { IfOk result
-            (λ _. BeginsWith self.new.problem self.old.marks rows.now [] self.new.marks) }
-        ensures fits { IfOk result (λ _. AllSumsFit self.old rows.now) }
-        ensures before { self.new.before ≡ self.old.before }
-        ensures stop { IfErr result (IsAddStop self.old rows.now) }
-        ensures same { OnErr result (IsRewound self.old self.new) }
-    {
+    fn add_rows(&mut self, rows: &[Row]) -> Result<(), RunStop> {
         forget_known(&mut self.known);
         match join_rows(&mut self.table, &mut self.listed, rows) {
             Ok(()) => Ok(()),
@@ -809,22 +579,7 @@ impl Corner {
         }
     }
 
-    /// Gives a row this constant, whose difference from the row's own fits. The marks inside stay, and values
-    /// may turn negative.
-    ///
-    /// `Refused` names a quantity that does not fit where the row has the new constant. After a stop the
-    /// corner is that of the newest mark.
-    pub fn shift(&mut self, id: u32, to: Frac) -> Result<(), TableStop>
-        requires marked { 0 < length self.old.before }
-        requires near { IsNear self.old.problem id to }
-        ensures problem { IfOk result (λ _. self.new.problem ≡ with_constant id to self.old.problem) }
-        ensures marks { IfOk result (λ _. self.new.marks ≡ self.old.marks) }
-        ensures before { self.new.before ≡ self.old.before }
-        ensures candidates { IfOk result (λ _. self.new.candidates ≡ self.old.candidates) }
-        ensures stop { IfErr result
-            (IsUnfitStop (with_constant id to self.old.problem) self.old.marks) }
-        ensures same { OnErr result (IsRewound self.old self.new) }
-    {
+    fn shift(&mut self, id: u32, to: Frac) -> Result<(), TableStop> {
         match shift_known(&mut self.table, &mut self.known, id, to) {
             Ok(()) => Ok(()),
             Err(stop) => {
@@ -835,35 +590,13 @@ impl Corner {
         }
     }
 
-    /// Takes a row out whose mark is inside. The lines of its writing are listed if its mark costs.
-    ///
-    /// `Refused` names what does not fit without the row, and the corner is as before. After want of memory
-    /// it is that of the newest mark.
-    pub fn drop_row(&mut self, id: u32) -> Result<(), TableStop>
-        requires marked { 0 < length self.old.before }
-        requires inside { Any (λ m. m.row ≡ row_names.Held id) self.old.marks }
-        ensures problem { IfOk result (λ _. self.new.problem ≡ without_row id self.old.problem) }
-        ensures marks { IfOk result (λ _. self.new.marks ≡ without_marks (id ∷ []) self.old.marks) }
-        ensures before { self.new.before ≡ self.old.before }
-        ensures stop { IfErr result (IsUnfitStop (without_row id self.old.problem)
-            (without_marks (id ∷ []) self.old.marks)) }
-        ensures same { IfErr result (IsAsBefore self.old self.new) }
-    {
+    fn drop_row(&mut self, id: u32) -> Result<(), TableStop> {
         forget_known(&mut self.known);
         let leaver = leaver_of(&self.table, id);
         take_row(&mut self.table, &mut self.listed, leaver)
     }
 
-    /// Takes an attribute out that no row names, and its stay, which is outside. After want of memory the
-    /// corner is that of the newest mark.
-    pub fn drop_attr(&mut self, attr: u32) -> Result<(), OutOfMemory>
-        requires marked { 0 < length self.old.before }
-        requires free { IsFree self.old.problem attr }
-        ensures problem { IfOk result (λ _. self.new.problem ≡ without_attr attr self.old.problem) }
-        ensures marks { IfOk result (λ _. self.new.marks ≡ self.old.marks) }
-        ensures before { self.new.before ≡ self.old.before }
-        ensures same { OnErr result (IsRewound self.old self.new) }
-    {
+    fn drop_attr(&mut self, attr: u32) -> Result<(), OutOfMemory> {
         forget_known(&mut self.known);
         match take_attr(&mut self.table, &mut self.listed, attr) {
             Ok(()) => Ok(()),
@@ -874,16 +607,7 @@ impl Corner {
         }
     }
 
-    /// Gives the stays the attributes' values as targets. No attribute's value changes. After want of memory
-    /// the corner is that of the newest mark.
-    pub fn stand(&mut self) -> Result<(), OutOfMemory>
-        requires marked { 0 < length self.old.before }
-        ensures stood { IfOk result (λ _. HasStood self.old self.new) }
-        ensures marks { IfOk result (λ _. self.new.marks ≡ self.old.marks) }
-        ensures before { self.new.before ≡ self.old.before }
-        ensures candidates { IfOk result (λ _. self.new.candidates ≡ self.old.candidates) }
-        ensures same { OnErr result (IsRewound self.old self.new) }
-    {
+    fn stand(&mut self) -> Result<(), OutOfMemory> {
         match stand_known(&mut self.table, &mut self.known) {
             Ok(()) => Ok(()),
             Err(OutOfMemory) => {
@@ -894,18 +618,7 @@ impl Corner {
         }
     }
 
-    /// Puts the stays of these attributes before all others, in this order; the others keep theirs. The marks
-    /// inside and all values stay, and columns may turn negative. After want of memory the corner is that of
-    /// the newest mark.
-    pub fn put_first(&mut self, attrs: &[u32]) -> Result<(), OutOfMemory>
-        requires marked { 0 < length self.old.before }
-        requires held { All (HasStay self.old.problem.stays) attrs.now }
-        requires apart { AllPairs (λ a b. a ≢ b) attrs.now }
-        ensures problem { IfOk result (λ _. self.new.problem ≡ fronted attrs.now self.old.problem) }
-        ensures marks { IfOk result (λ _. SameMarks self.new.marks self.old.marks) }
-        ensures before { self.new.before ≡ self.old.before }
-        ensures same { OnErr result (IsRewound self.old self.new) }
-    {
+    fn put_first(&mut self, attrs: &[u32]) -> Result<(), OutOfMemory> {
         forget_known(&mut self.known);
         match put_front(&mut self.table, &mut self.listed, attrs) {
             Ok(()) => Ok(()),
@@ -916,44 +629,27 @@ impl Corner {
         }
     }
 
-    /// Makes the corner of now, at which no line is listed, the newest of the earlier ones. The oldest is
-    /// forgotten where there are too many.
-    pub fn mark(&mut self)
-        requires { self.old.candidates ≡ [] }
-        ensures scene { scene_of self.new ≡ scene_of self.old }
-        ensures before { self.new.before ≡ take VERSION_LIMIT (scene_of self.old ∷ self.old.before) }
-        ensures candidates { self.new.candidates ≡ [] }
-    {
+    fn mark(&mut self) {
         mark(&mut self.table);
     }
 
-    /// Goes back to the newest of the earlier corners.
-    pub fn back(&mut self)
-        requires { 0 < length self.old.before }
-        ensures scene { self.old.before ≡ scene_of self.new ∷ self.new.before }
-        ensures candidates { self.new.candidates ≡ [] }
-    {
+    fn back(&mut self) {
         forget_known(&mut self.known);
         self.listed.clear();
         back(&mut self.table);
     }
 
-    /// Takes back what was done since the newest of the earlier corners, which stays.
-    pub fn rewind(&mut self)
-        requires { 0 < length self.old.before }
-        ensures { IsRewound self.old self.new }
-    {
+    fn rewind(&mut self) {
         forget_known(&mut self.known);
         take_back(&mut self.table, &mut self.listed);
     }
 
-    /// Forgets the oldest of the earlier corners.
-    pub fn forget(&mut self)
-        requires { 0 < length self.old.before }
-        ensures scene { scene_of self.new ≡ scene_of self.old }
-        ensures before { self.new.before ≡ take (length self.old.before - 1) self.old.before }
-        ensures candidates { self.new.candidates ≡ self.old.candidates }
-    {
+    fn forget(&mut self) {
         forget(&mut self.table);
+    }
+
+    fn moved(&self) -> Result<Vec<u32>, OutOfMemory> {
+        let moved = moved_attrs(&self.table)?;
+        Ok(moved)
     }
 }

@@ -5,7 +5,8 @@ ghost use Rattle.corner_table.specs.Histories.{AreAlike, HasSameHistory, lists_b
 ghost use Rattle.corner_table.specs.Kept.{IsKept};
 ghost use Rattle.corner_table.specs.Tables.{Lists, lists_of, problem_of};
 ghost use Rattle.corner.specs.Known.{AreKnown};
-ghost use Rattle.corner_shifts.specs.Shifting.{IsNear, IsShifted, IsShiftedStop};
+ghost use Rattle.corner_view.specs.Changes.{IsNear};
+ghost use Rattle.corner_shifts.specs.Shifting.{IsShifted, IsShiftedStop};
 ghost use Rattle.corner_shifts.specs.Stood.{AreFirstStood};
 
 use crate::safe::{Safe, clear_safe, no_safe};

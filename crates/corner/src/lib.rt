@@ -61,4 +61,3 @@ mod lows;
 mod safe;
 
 pub use corner::Corner;
-pub use corner_writings::{Front, Fronts};

@@ -1,7 +1,7 @@
 // The inside mark of a line whose value is negative.
 ghost use Rattle.std.specs.Prelude.{◌≡◌, ◌<◌, ◌<ℤ◌, ◌≤ℤ◌, pos, true, false, IfSome, IfNone};
-ghost use Rattle.corner.specs.Lows.{AreNotLow, IsLowMark};
-ghost use Rattle.corner.specs.Views.{IsNamed};
+ghost use Rattle.corner_view.specs.Lows.{AreNotLow, IsLowMark};
+ghost use Rattle.corner_view.specs.Seen.{IsNamed};
 ghost use Rattle.corner_table.specs.Kept.{IsKept};
 ghost use Rattle.corner_table.specs.Tables.{lists_of, marks_at, problem_of};
 

@@ -6,7 +6,8 @@ ghost use Rattle.problem_core.specs.declared.limits.TheConstants.{REQUIRED as MO
 ghost use Rattle.problem_core.specs.declared.parts.Level.TheVariants.{Priority as PriorityOf};
 ghost use Rattle.corner_table.specs.Kept.{IsKept};
 ghost use Rattle.corner_table.specs.Tables.{Lists, lists_of, marks_at, problem_of, row_at};
-ghost use Rattle.corner_writings.specs.Growing.{AreGrowersDear, IsRowDear};
+ghost use Rattle.corner_view.specs.Growing.{AreGrowersDear};
+ghost use Rattle.corner_writings.specs.Growing.{IsRowDear};
 ghost use Rattle.corner.specs.Safe.{AreSafe, IsNoted, ListsNone, listed_at};
 
 use corner_table::{Listed, Table, level_slot, line_slot};

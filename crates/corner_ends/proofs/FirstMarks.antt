@@ -13,14 +13,13 @@ use Rattle.problem_core.specs.Corners.{IsIn, Swap, exchanged, marks_of, place}
 use Rattle.problem_core.specs.Changes.Paths.{last_marks}
 use Rattle.corner_laws.proofs.Exchanged.{exchanged_in}
 use Rattle.corner_laws.proofs.RunSteps.RunPaths.{contains_in}
-use Rattle.corner.specs.Views.{IsNamed, in_order, is_mark}
+use Rattle.corner_view.specs.Seen.{in_order, is_mark, IsNamed}
 use Rattle.corner_ends.specs.Among.{lines_among, marks_among}
 use Rattle.corner_ends.specs.Begins.{AreExchanges, HasExchanged}
 use Rattle.corner_ends.proofs.MarkOrders.{kept_in}
-use Rattle.corner_table.proofs.Readings.MarkingFacts.{append_more}
+use Rattle.corner_view.proofs.Facts.{append_more, in_is as in-mark, is_in as mark-in}
 use Rattle.frac_core.proofs.Bools.{bools-same as same-bool}
 use Rattle.problem_core.proofs.Lines.{past-rows, stay-line}
-use Rattle.corner_table.proofs.Readings.KeptFacts.{is_in as mark-in, in_is as in-mark}
 
 -- ---- what exchanges leave alone
 

@@ -24,11 +24,12 @@ use Rattle.corner_laws.proofs.RunSteps.ColumnSigns.{mark_line, negative_by_reduc
 use Rattle.corner_laws.proofs.LevelCosts.Equal.{numbers_are_equal}
 use Rattle.corner_laws.proofs.LevelCosts.LevelExists.{level_writing_exists}
 use Rattle.corner_lines.proofs.LevelRows.StayRows.{level_one}
-use Rattle.corner_writings.specs.declared.levels.Front.{Front}
-use Rattle.corner.specs.Views.{HasNoFront, IsFrontOf, IsInUse, IsKeptCorner, IsMarkOf, IsOutside, IsReducedAt}
+use Rattle.corner_view.specs.declared.types.Front.{Front}
+use Rattle.corner_view.specs.Fronts.{HasNoFront, IsFrontOf}
+use Rattle.corner_view.specs.Seen.{IsInUse, IsKeptCorner, IsMarkOf, IsOutside, IsReducedAt}
 use Rattle.corner_ends.specs.Columns.{IsNegative, Reduced}
 use Rattle.corner_ends.proofs.Signs.{reduced_by_negative}
-use Rattle.corner_writings.proofs.Readings.LowLines.{up_or_low}
+use Rattle.corner_view.proofs.Facts.{up_or_low}
 use Rattle.frac_core.proofs.Orders.{three as order}
 
 -- ---- the reduced costs of all levels

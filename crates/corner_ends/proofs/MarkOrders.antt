@@ -9,7 +9,7 @@ use Rattle.problem_core.specs.Layout.{Problem}
 use Rattle.problem_core.specs.Corners.{IsIn, SameMarks, Swap, exchanged, place}
 use Rattle.problem_core.specs.Changes.Paths.{last_marks}
 use Rattle.corner_laws.proofs.RunSteps.RunPaths.{contains_in}
-use Rattle.corner.specs.Changes.{IsUnfitStop}
+use Rattle.corner_view.specs.Stops.{IsUnfitStop}
 use Rattle.corner_lines.proofs.LevelRows.SameLevels.{what_same as unfit-what}
 use Rattle.problem_core.proofs.Marks.{in-list as in_list, last-more as last_more}
 use Rattle.corner_lines.proofs.SameMarks.{same_exchanged}

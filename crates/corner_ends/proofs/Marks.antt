@@ -12,9 +12,8 @@ use Rattle.problem_core.specs.declared.parts.RowName.TheVariants.{Held, Stay as 
 use Rattle.problem_core.specs.Layout.{Problem, lines}
 use Rattle.problem_core.specs.Corners.{HasNegativeColumn, IsIn, marks_of, place, place_of}
 use Rattle.corner_laws.proofs.WrittenValues.{contains_each}
-use Rattle.corner.specs.Views.{IsKeptCorner, IsMarkOf, IsNamed}
-use Rattle.corner.specs.Changes.{HasNoNegative}
-use Rattle.corner_table.proofs.Readings.ReadFacts.{named_in as named_mark}
+use Rattle.corner_view.specs.Seen.{HasNoNegative, IsKeptCorner, IsMarkOf, IsNamed}
+use Rattle.corner_view.proofs.Facts.{named_in as named_mark}
 
 pub mark_is : (p : Problem) (m : Mark) (name : RowName) (side : Side) → m ≡ record { row = name; side = side } → IsNamed p name → IsMarkOf p m
 mark_is p m name side e named = subst (IsMarkOf p) (sym e) (named_mark p name side named)

@@ -8,7 +8,7 @@ use Rattle.problem_core.specs.Layout.{Problem, coefficient}
 use Rattle.problem_core.specs.Corners.{IsWritingOf, place}
 use Rattle.corner_laws.specs.Runs.{Writes, Writing}
 use Rattle.corner_laws.proofs.MarkWritings.Equations.{writings_are_equal}
-use Rattle.corner.specs.Views.{IsCoefficientOf, IsKeptCorner, IsScaleOf}
+use Rattle.corner_view.specs.Seen.{IsCoefficientOf, IsKeptCorner, IsScaleOf}
 
 same-writing : (p : Problem) (at : List Mark) (c d : ℕ) (scale : ℕ) (form : List Term) (value : Fraction) (w : Writing) → IsKeptCorner p at → d ≡ c → IsWritingOf p at (λ x. x d) scale form value.num value.den → Writes p at c w
     → (scale ≡ w.scale) × ((v : ℕ) → coefficient v form ≡ coefficient v w.form) × (value.num *ℤ pos w.den ≡ w.num *ℤ pos value.den)

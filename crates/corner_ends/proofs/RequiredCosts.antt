@@ -8,7 +8,7 @@ use Rattle.problem_core.specs.Levels.{CostsAbove, IsCostAt, cost_at, scales}
 use Rattle.problem_core.proofs.Wholes.{whole-IsProblem}
 use Rattle.corner_laws.proofs.LevelCosts.LevelExists.{cost_fixed}
 use Rattle.corner_laws.proofs.ZeroColumns.{scales-above}
-use Rattle.corner.specs.Views.{IsKeptCorner}
+use Rattle.corner_view.specs.Seen.{IsKeptCorner}
 use Rattle.corner_lines.proofs.Costs.CostSigns.{up-cost, low-cost, moved-up}
 
 -- ---- the cost

@@ -20,7 +20,7 @@ use Rattle.corner_laws.proofs.Swaps.ColumnsStay.{sums-AreMultipliersAt, together
 use Rattle.corner_laws.proofs.LevelCosts.Equal.{numbers_are_equal, writing-sum as writing-IsLevelSum}
 use Rattle.corner_laws.proofs.LevelCosts.LevelExists.{level_writing_exists}
 use Rattle.corner_laws.proofs.PathEnds.Refuting.{cost_refutes}
-use Rattle.corner.specs.Views.{HasNumbers, IsKeptCorner, IsNamed}
+use Rattle.corner_view.specs.Seen.{HasNumbers, IsKeptCorner, IsNamed}
 use Rattle.corner_ends.specs.Shares.{AreRequiredTimes}
 use Rattle.corner_ends.proofs.Fronts.{level_0}
 use Rattle.corner_ends.proofs.Signs.{columns_alike}

@@ -29,9 +29,9 @@ use Rattle.corner_laws.proofs.PathEnds.Refuting.{constant_there}
 use Rattle.corner_laws.proofs.ZeroColumns.{scales-above}
 use Rattle.corner_lines.specs.Fronts.{constantless}
 use Rattle.corner_lines.specs.Shifts.{AreSeenAlike}
-use Rattle.corner.specs.Views.{IsKeptCorner}
-use Rattle.corner_table.proofs.Seen.SeenColumns.{multipliers_seen}
-use Rattle.corner_table.proofs.Seen.SeenLines.{each_seen}
+use Rattle.corner_view.specs.Seen.{IsKeptCorner}
+use Rattle.corner_view.proofs.Seen.SeenColumns.{multipliers_seen}
+use Rattle.corner_view.proofs.Seen.SeenLines.{each_seen}
 use Rattle.corner_ends.specs.Shares.{AreRequiredTimes, AreShares, IsDivisor, IsGreatest}
 use Rattle.corner_ends.proofs.ShownTimes.{shown_conflict}
 use Rattle.corner_ends.proofs.Signs.{columns_alike}

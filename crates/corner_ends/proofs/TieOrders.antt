@@ -20,7 +20,7 @@ use Rattle.corner_laws.proofs.RunSteps.RunPaths.{contains_in, order_is_free, run
 use Rattle.corner_laws.proofs.Swaps.Pivots.{exchanged_apart, each-out}
 use Rattle.corner_lines.proofs.SameMarks.{same_corner, same_exchanged, same_rays}
 use Rattle.corner_lines.proofs.LevelRows.SameLevels.{sound_same}
-use Rattle.corner_table.proofs.Basics.MarkLists.{same_trans as same_through}
+use Rattle.corner_view.proofs.Facts.{same_trans as same_through}
 use Rattle.corner_ends.specs.Trails.{in_tie_order, put_tied}
 
 -- ---- the same marks

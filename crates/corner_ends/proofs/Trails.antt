@@ -12,8 +12,8 @@ use Rattle.corner_laws.specs.Runs.{AreDualSwaps, AreRunSwaps}
 use Rattle.corner_laws.proofs.RunSteps.DualRuns.{dual_run_is_path}
 use Rattle.corner_laws.proofs.RunSteps.RunPaths.{contains_in, same_stands}
 use Rattle.corner_laws.proofs.WrittenValues.{contains_each}
-use Rattle.corner.specs.Views.{IsKeptCorner}
-use Rattle.corner.specs.Changes.{IsUnfitStop}
+use Rattle.corner_view.specs.Seen.{IsKeptCorner}
+use Rattle.corner_view.specs.Stops.{IsUnfitStop}
 use Rattle.cert_core.specs.Stops.{IsStopOf, IsUnfitPath}
 use Rattle.cert_core.specs.declared.stops.RunStop.TheVariants.{Spent, Unfit}
 use Rattle.cert_core.specs.Paths.{Path}
@@ -24,7 +24,7 @@ use Rattle.corner_ends.proofs.MarkOrders.{last_same, same_self, unfit_same}
 use Rattle.corner_ends.proofs.RunEnds.{spent_path}
 use Rattle.corner_ends.proofs.TieOrders.{tied_is_path}
 use Rattle.problem_core.proofs.Marks.{same-back as same_back, same-multipliers as same_multipliers}
-use Rattle.corner_table.proofs.Basics.MarkLists.{same_trans as same_through}
+use Rattle.corner_view.proofs.Facts.{same_trans as same_through}
 use Rattle.corner_lines.proofs.LevelRows.SameLevels.{sound_same as sound-same}
 
 -- ---- a run of no exchange

@@ -4,7 +4,7 @@ use Rattle.problem_core.specs.declared.parts.Mark.{Mark}
 use Rattle.problem_core.specs.declared.parts.RowName.{RowName}
 use Rattle.problem_core.specs.declared.parts.Side.TheVariants.{Under, Over}
 use Rattle.problem_core.specs.Corners.{place}
-use Rattle.corner.specs.Views.{is_mark}
+use Rattle.corner_view.specs.Seen.{is_mark}
 
 -- those of the marks that have the column of a first one
 abbrev pub marks_among : List Mark → List Mark → List Mark

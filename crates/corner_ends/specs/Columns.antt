@@ -4,7 +4,7 @@ use Rattle.problem_core.specs.declared.parts.Mark.{Mark}
 use Rattle.problem_core.specs.Layout.{Problem, lines}
 use Rattle.problem_core.specs.Corners.{HasNegativeColumn}
 use Rattle.corner_laws.specs.RunLaws.{AreReduced}
-use Rattle.corner.specs.Views.{IsOutside}
+use Rattle.corner_view.specs.Seen.{IsOutside}
 
 -- the mark is outside, and its column is negative
 pub record IsNegative (p : Problem) (at : List Mark) (m : Mark) : Type 0 where

@@ -4,6 +4,3 @@ pub mod Columns
 pub mod Among
 pub mod Begins
 pub mod Trails
-pub mod Views
-pub mod Changes
-pub mod Lows

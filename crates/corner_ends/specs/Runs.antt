@@ -6,7 +6,7 @@ use Rattle.problem_core.specs.Corners.{NoNegativeColumn, NoNegativeValue, SameMa
 use Rattle.problem_core.specs.Levels.{CostsAbove}
 use Rattle.problem_core.specs.Changes.Paths.{IsPath, last_marks}
 use Rattle.cert_core.specs.Paths.{Path}
-use Rattle.corner.specs.Views.{CornerView}
+use Rattle.corner_view.specs.Seen.{CornerView}
 
 -- no value is negative, no column is, and the required rows cost nothing
 pub record IsBestEnd (p : Problem) (at : List Mark) : Type 0 where

@@ -8,7 +8,7 @@ use Rattle.problem_core.specs.declared.parts.RowName.{RowName}
 use Rattle.problem_core.specs.declared.parts.RowName.TheVariants.{Held}
 use Rattle.problem_core.specs.Layout.{Problem, Row}
 use Rattle.problem_core.specs.Levels.{IsLevelWriting}
-use Rattle.corner.specs.Views.{CornerView}
+use Rattle.corner_view.specs.Seen.{CornerView}
 use Rattle.cert_core.specs.declared.by.By.{By}
 use Rattle.cert_core.specs.Claims.{AreBys, times_of}
 use Rattle.cert_core.specs.Stops.{ComesBefore, IsShownConflict}

@@ -15,8 +15,8 @@ use Rattle.cert_core.specs.Paths.{Path}
 use Rattle.cert_core.specs.Stops.{IsStopOf}
 use Rattle.cert_core.specs.declared.stops.RunStop.{RunStop}
 use Rattle.cert_core.specs.declared.stops.RunStop.TheVariants.{Conflict, Unfit, Spent, OutOfMemory}
-use Rattle.corner.specs.Changes.{IsUnfitStop}
-use Rattle.corner.specs.Views.{CornerView, in_order, is_mark}
+use Rattle.corner_view.specs.Stops.{IsUnfitStop}
+use Rattle.corner_view.specs.Seen.{CornerView, in_order, is_mark}
 use Rattle.corner_ends.specs.Runs.{FromHere}
 
 -- exchanges of a run, dual or primal

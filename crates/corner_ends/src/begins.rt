@@ -3,12 +3,12 @@ ghost use Rattle.std.specs.Prelude.{◌≡◌, ◌++◌, ◌∷◌, [], List, ma
 ghost use Rattle.problem_core.specs.Corners as corners;
 ghost use Rattle.problem_core.specs.declared.parts.Mark.{Mark as MarkOfLine};
 ghost use Rattle.problem_core.specs.declared.parts.RowName.TheVariants.{Held, Stay as StayOf};
-ghost use Rattle.corner.specs.Views.{IsMarkOf, IsNamed, in_order, is_mark};
+ghost use Rattle.corner_view.specs.Seen.{in_order, is_mark, IsMarkOf, IsNamed};
 ghost use Rattle.corner_ends.specs.Among.{lines_among, marks_among};
 ghost use Rattle.corner_ends.specs.Begins.{HasExchanged};
 
 use cert_core::Swap;
-use corner::Corner;
+use corner_view::{Corner, Tableau};
 use frac_core::OutOfMemory;
 use problem_core::{Mark, RowName, Side};
 use std::alloc::Global;
@@ -21,7 +21,7 @@ fn mark_at(row: RowName, side: Side) -> Mark
 }
 
 /// Whether the mark was inside the first corner: the first exchange that names it tells.
-pub(crate) fn was_inside(c: &Corner, swaps: &[Swap], mark: Mark) -> bool
+pub(crate) fn was_inside<T: Tableau>(c: &Corner<T>, swaps: &[Swap], mark: Mark) -> bool
     requires { IsMarkOf c.now.problem mark }
     ensures { (first : List MarkOfLine) → HasExchanged first swaps.now c.now.marks
         → result ≡ is_mark first (corners.place mark) }
@@ -38,7 +38,12 @@ pub(crate) fn was_inside(c: &Corner, swaps: &[Swap], mark: Mark) -> bool
 }
 
 // Puts the mark behind the others, if it was inside the first corner.
-fn push_mark(c: &Corner, swaps: &[Swap], mark: Mark, out: &mut Vec<Mark>) -> Result<(), OutOfMemory>
+fn push_mark<T: Tableau>(
+    c: &Corner<T>,
+    swaps: &[Swap],
+    mark: Mark,
+    out: &mut Vec<Mark>,
+) -> Result<(), OutOfMemory>
     requires { IsMarkOf c.now.problem mark }
     ensures { OnOk result ((first : List MarkOfLine) → HasExchanged first swaps.now c.now.marks
         → out.new.items ≡ out.old.items ++ marks_among first (mark ∷ [])) }
@@ -50,8 +55,8 @@ fn push_mark(c: &Corner, swaps: &[Swap], mark: Mark, out: &mut Vec<Mark>) -> Res
 }
 
 // Puts the mark of a line behind the others that was inside the first corner, if one was.
-fn push_line(
-    c: &Corner,
+fn push_line<T: Tableau>(
+    c: &Corner<T>,
     swaps: &[Swap],
     row: RowName,
     out: &mut Vec<Mark>,
@@ -65,7 +70,11 @@ fn push_line(
 }
 
 // Puts the marks of the rows behind the others that were inside the first corner.
-fn push_rows(c: &Corner, swaps: &[Swap], out: &mut Vec<Mark>) -> Result<(), OutOfMemory>
+fn push_rows<T: Tableau>(
+    c: &Corner<T>,
+    swaps: &[Swap],
+    out: &mut Vec<Mark>,
+) -> Result<(), OutOfMemory>
     ensures { OnOk result ((first : List MarkOfLine) → HasExchanged first swaps.now c.now.marks
         → out.new.items ≡ out.old.items ++ lines_among first (map (λ r. Held r.id) c.now.problem.rows)) }
 {
@@ -76,7 +85,11 @@ fn push_rows(c: &Corner, swaps: &[Swap], out: &mut Vec<Mark>) -> Result<(), OutO
 }
 
 // Puts the marks of the stays behind the others that were inside the first corner.
-fn push_stays(c: &Corner, swaps: &[Swap], out: &mut Vec<Mark>) -> Result<(), OutOfMemory>
+fn push_stays<T: Tableau>(
+    c: &Corner<T>,
+    swaps: &[Swap],
+    out: &mut Vec<Mark>,
+) -> Result<(), OutOfMemory>
     ensures { OnOk result ((first : List MarkOfLine) → HasExchanged first swaps.now c.now.marks
         → out.new.items ≡ out.old.items ++ lines_among first (map (λ s. StayOf s.attr) c.now.problem.stays)) }
 {
@@ -87,7 +100,11 @@ fn push_stays(c: &Corner, swaps: &[Swap], out: &mut Vec<Mark>) -> Result<(), Out
 }
 
 /// The marks inside the first corner, by row number with the stays last.
-pub fn first_marks(alloc: Global, c: &Corner, swaps: &[Swap]) -> Result<Vec<Mark>, OutOfMemory>
+pub fn first_marks<T: Tableau>(
+    alloc: Global,
+    c: &Corner<T>,
+    swaps: &[Swap],
+) -> Result<Vec<Mark>, OutOfMemory>
     ensures { IfOk result (λ marks. (first : List MarkOfLine)
         → HasExchanged first swaps.now c.now.marks → first ≡ in_order c.now.problem first
         → marks.items ≡ first) }

@@ -15,13 +15,13 @@ ghost use Rattle.corner_ends.specs.Shares.{IsDivisor, IsGreatest};
 
 use crate::costs::{is_below, required_level};
 use cert_core::{By, Conflict, RunStop};
-use corner::Corner;
+use corner_view::{Corner, Tableau};
 use frac_core::{OutOfMemory, gcd, opposite};
 use problem_core::{REQUIRED, Row, RowName};
 use std::alloc::Global;
 
 // The multiplier of a row at the level of the required rows.
-fn multiplier(c: &Corner, row: &Row) -> i64
+fn multiplier<T: Tableau>(c: &Corner<T>, row: &Row) -> i64
     requires { Any (λ r. r.id ≡ row.now.id) c.now.problem.rows }
     ensures value { ForRequiredTimes c.now (λ y. result ≡ y row.now.id) }
     ensures fits { IsFitting result }
@@ -47,7 +47,7 @@ fn shared(factor: u128, times: i64) -> u128
 }
 
 // The greatest factor that a row's multiplier shares with a factor, where the row is required.
-fn shared_by(factor: u128, c: &Corner, row: &Row) -> u128
+fn shared_by<T: Tableau>(factor: u128, c: &Corner<T>, row: &Row) -> u128
     requires row { Any (λ r. r.id ≡ row.now.id) c.now.problem.rows }
     requires small { factor < PART_BOUND }
     ensures small { result < PART_BOUND }
@@ -64,7 +64,7 @@ fn shared_by(factor: u128, c: &Corner, row: &Row) -> u128
 }
 
 // The greatest common factor of the multipliers, 1 where there are none.
-fn common_factor(c: &Corner) -> u128
+fn common_factor<T: Tableau>(c: &Corner<T>) -> u128
     ensures above { 0 < result }
     ensures small { result < PART_BOUND }
     ensures divides { ForRequiredTimes c.now (λ y. All (IsDivisor result y) c.now.problem.rows) }
@@ -120,7 +120,12 @@ fn share(times: i64, factor: u128) -> i64
 }
 
 // Appends the row's share of its multiplier, where the row is required and this is not 0.
-fn push_share(out: &mut Vec<By>, c: &Corner, row: &Row, factor: u128) -> Result<(), OutOfMemory>
+fn push_share<T: Tableau>(
+    out: &mut Vec<By>,
+    c: &Corner<T>,
+    row: &Row,
+    factor: u128,
+) -> Result<(), OutOfMemory>
     requires row { Any (λ r. r.id ≡ row.now.id) c.now.problem.rows }
     requires above { 0 < factor }
     requires divides { ForRequiredTimes c.now (λ y. IsDivisor factor y row.now) }
@@ -141,7 +146,7 @@ fn push_share(out: &mut Vec<By>, c: &Corner, row: &Row, factor: u128) -> Result<
 }
 
 // The multipliers of the required rows without a common factor.
-fn shares(alloc: Global, c: &Corner) -> Result<Vec<By>, OutOfMemory>
+fn shares<T: Tableau>(alloc: Global, c: &Corner<T>) -> Result<Vec<By>, OutOfMemory>
     ensures { IfOk result
         (λ out. ForRequiredTimes c.now (λ y. AreLowestShares y c.now.problem.rows out.items)) }
 {
@@ -156,7 +161,7 @@ fn shares(alloc: Global, c: &Corner) -> Result<Vec<By>, OutOfMemory>
 
 /// The conflict that the multipliers of the required level show, here and with all other constants with which
 /// the required rows cost at this corner.
-pub fn conflict(alloc: Global, c: &Corner) -> Result<Conflict, OutOfMemory>
+pub fn conflict<T: Tableau>(alloc: Global, c: &Corner<T>) -> Result<Conflict, OutOfMemory>
     requires above { CostsAbove c.now.problem c.now.marks 0 }
     requires columns { NoNegativeRequired c.now.problem c.now.marks }
     ensures here { IfOk result (IsShownConflict c.now.problem) }
@@ -173,7 +178,7 @@ pub fn conflict(alloc: Global, c: &Corner) -> Result<Conflict, OutOfMemory>
 ///
 /// The rows that it names come by rising number, none of them times 0, and the multipliers have no common
 /// factor. That rows without a solution always have such multipliers is Farkas's lemma.
-pub fn conflict_stop(alloc: Global, c: &Corner) -> RunStop
+pub fn conflict_stop<T: Tableau>(alloc: Global, c: &Corner<T>) -> RunStop
     requires above { CostsAbove c.now.problem c.now.marks 0 }
     requires columns { NoNegativeRequired c.now.problem c.now.marks }
     ensures { IsConflictStop c.now.problem result }

@@ -4,7 +4,7 @@ ghost use Rattle.problem_core.specs.declared.limits.TheConstants.{REQUIRED};
 ghost use Rattle.problem_core.specs.declared.parts.Level.TheVariants.{Priority};
 ghost use Rattle.problem_core.specs.Levels.{CostsAbove};
 
-use corner::Corner;
+use corner_view::{Corner, Tableau};
 use problem_core::{Level, REQUIRED};
 
 /// Whether the number is below 0.
@@ -31,7 +31,7 @@ pub fn required_level() -> Level
 }
 
 /// Whether the required rows cost.
-pub fn is_costly(c: &Corner) -> bool
+pub fn is_costly<T: Tableau>(c: &Corner<T>) -> bool
     ensures yes { result ≡ true → CostsAbove c.now.problem c.now.marks 0 }
     ensures no { result ≡ false → CostsAbove c.now.problem c.now.marks 0 → ⊥ }
 {

@@ -24,8 +24,7 @@
 //! now. The lemmas here are those that the proofs of both kinds cite: on fronts and signs of columns, on
 //! marks in another order, on the exchanges so far, and on what stops a run.
 //!
-//! [`Corner`] and what is seen of a corner (`Views`, `Changes`, `Lows` of `specs/`) are passed on, so that a
-//! run needs to name no other crate for them.
+//! The functions are generic over what keeps the corner (`Tableau` of `corner_view`).
 //!
 //! To read: `costs` tells what the required rows cost, `numbers` reads a coefficient, `conflicts` divides the
 //! multipliers by their common factor, `begins` finds the marks of a run's first corner from those of now and
@@ -40,7 +39,6 @@ mod trail;
 
 pub use begins::first_marks;
 pub use conflicts::{conflict, conflict_stop};
-pub use corner::{Corner, Front};
 pub use costs::{is_above, is_below, is_costly, required_level};
 pub use numbers::coefficient_of;
 pub use trail::Trail;

@@ -2,11 +2,11 @@
 ghost use Rattle.std.specs.Prelude.{◌≡◌, ◌<◌, ◌≤◌, ◌+◌, ◌++◌, ◌∷◌, [], length, true, false};
 ghost use Rattle.std.specs.Prelude.{IfOk};
 ghost use Rattle.problem_core.specs.Changes.Paths.{IsSound};
-ghost use Rattle.corner.specs.Views.{IsMarkOf};
+ghost use Rattle.corner_view.specs.Seen.{IsMarkOf};
 
 use crate::begins::{first_marks, was_inside};
 use cert_core::{Path, RunStop, Swap, UnfitPath};
-use corner::Corner;
+use corner_view::{Corner, Tableau};
 use frac_core::OutOfMemory;
 use problem_core::{Mark, Quantity};
 use std::alloc::Global;
@@ -36,7 +36,7 @@ impl Trail {
     ghost use Rattle.corner_ends.specs.Trails.{IsSpentStop, IsTrailOf, IsUnfitAfter};
 
     // The trail of these exchanges, which are none yet.
-    fn begun(alloc: Global, dual: bool, c: &Corner, swaps: Vec<Swap>) -> Trail
+    fn begun<T: Tableau>(alloc: Global, dual: bool, c: &Corner<T>, swaps: Vec<Swap>) -> Trail
         requires sound { IsSound dual c.now.problem c.now.marks }
         requires none { swaps.items ≡ [] }
         ensures none { result.swaps ≡ [] }
@@ -47,7 +47,7 @@ impl Trail {
     }
 
     /// The trail of no exchange from the corner.
-    pub fn of(alloc: Global, dual: bool, c: &Corner) -> Trail
+    pub fn of<T: Tableau>(alloc: Global, dual: bool, c: &Corner<T>) -> Trail
         requires { IsSound dual c.now.problem c.now.marks }
         ensures none { result.swaps ≡ [] }
         ensures trail { IsTrailOf dual c.now.problem c.now.marks result c.now.marks }
@@ -56,10 +56,10 @@ impl Trail {
     }
 
     /// The trail of no exchange from the corner, with room for so many.
-    pub fn with_room(
+    pub fn with_room<T: Tableau>(
         alloc: Global,
         dual: bool,
-        c: &Corner,
+        c: &Corner<T>,
         room: usize,
     ) -> Result<Trail, OutOfMemory>
         requires { IsSound dual c.now.problem c.now.marks }
@@ -89,7 +89,7 @@ impl Trail {
     }
 
     // The marks of the first corner, found from the exchanges.
-    fn first_corner(&self, c: &Corner) -> Result<Vec<Mark>, OutOfMemory>
+    fn first_corner<T: Tableau>(&self, c: &Corner<T>) -> Result<Vec<Mark>, OutOfMemory>
         ensures { IfOk result (λ marks. IsFirstCorner c.now self.now marks.items) }
     {
         let marks = first_marks(self.alloc, c, &self.swaps)?;
@@ -97,7 +97,7 @@ impl Trail {
     }
 
     /// Whether the mark was inside the first corner.
-    pub fn began_with(&self, c: &Corner, mark: Mark) -> bool
+    pub fn began_with<T: Tableau>(&self, c: &Corner<T>, mark: Mark) -> bool
         requires { IsMarkOf c.now.problem mark }
         ensures { BeganWith c.now self.now mark result }
     {
@@ -105,7 +105,7 @@ impl Trail {
     }
 
     /// The path so far.
-    pub fn path(&self, c: &Corner) -> Result<Path, OutOfMemory>
+    pub fn path<T: Tableau>(&self, c: &Corner<T>) -> Result<Path, OutOfMemory>
         ensures { IfOk result (IsPathBy c.now self.now self.now.swaps) }
     {
         let marks = self.first_corner(c)?;
@@ -113,7 +113,7 @@ impl Trail {
     }
 
     // The path so far, with one exchange more.
-    fn path_with(&mut self, c: &Corner, swap: Swap) -> Result<Path, OutOfMemory>
+    fn path_with<T: Tableau>(&mut self, c: &Corner<T>, swap: Swap) -> Result<Path, OutOfMemory>
         ensures { IfOk result (IsPathBy c.now self.old (self.old.swaps ++ swap ∷ [])) }
     {
         let marks = self.first_corner(c)?;
@@ -122,7 +122,7 @@ impl Trail {
     }
 
     /// The stop where the exchanges are used up.
-    pub fn spent(&self, c: &Corner) -> RunStop
+    pub fn spent<T: Tableau>(&self, c: &Corner<T>) -> RunStop
         ensures { IsSpentStop c.now self.now result }
     {
         match self.path(c) {
@@ -132,7 +132,7 @@ impl Trail {
     }
 
     /// The stop where a quantity does not fit after one exchange more.
-    pub fn unfit(&mut self, c: &Corner, swap: Swap, quantity: Quantity) -> RunStop
+    pub fn unfit<T: Tableau>(&mut self, c: &Corner<T>, swap: Swap, quantity: Quantity) -> RunStop
         ensures after { IsUnfitAfter c.now self.old swap quantity result }
         ensures plain { IsNoConflict result }
     {

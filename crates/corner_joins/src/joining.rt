@@ -20,7 +20,7 @@ ghost use Rattle.corner_table.specs.Tables.{lists_of, marks_at, priority_at as l
 ghost use Rattle.corner_table.specs.declared.table.TheConstants.{LEVELS, MOST_SLOTS};
 ghost use Rattle.corner_table.specs.Histories.{HasSameHistory};
 ghost use Rattle.corner_laws.specs.Lifts.{with_rows};
-ghost use Rattle.corner_joins.specs.Stops.{AllSumsFit, IsAddStop};
+ghost use Rattle.corner_view.specs.AddStops.{AllSumsFit, IsAddStop};
 ghost use Rattle.corner_table.specs.Paths.{IsPathStop};
 ghost use Rattle.corner_table.specs.Invariants.{seen_of};
 ghost use Rattle.corner_table.specs.Kept.{AreSlots, HasSlotsLeft, IsKept};
@@ -59,10 +59,11 @@ ghost use Rattle.corner_joins.specs.Additions.CostJoins.{with_cost, with_next};
 use cert_core::RunStop;
 use corner_exchange::{Change, named_row, named_sum, negated, put_change};
 use corner_table::{
-    Listed, OWN_RANK, Owner, Priority, Slot, Standing, Table, attr_slot, costs, line_slot,
-    list_row, next_slot, own_of, path_stop, priority_at, priority_level, product, push_slot, share,
-    side_in, sign, slot_at, value_at,
+    Listed, OWN_RANK, Priority, Slot, Standing, Table, attr_slot, costs, line_slot, list_row,
+    next_slot, own_of, path_stop, priority_at, priority_level, product, push_slot, share, side_in,
+    sign, slot_at, value_at,
 };
+use corner_view::Owner;
 use corner_writings::{Draft, Pair, does_level_fit};
 use frac_core::{Frac, OutOfMemory, PART_BOUND, Stop, common_divisor};
 use problem_core::{Mark, Quantity, REQUIRED, Row, RowName, Side, Stay, TableStop, Term};

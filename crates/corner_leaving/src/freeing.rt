@@ -4,7 +4,8 @@ ghost use Rattle.corner_leaving.specs.Dropping.{freed};
 ghost use Rattle.corner_table.specs.Histories.{AreAlike, lists_before};
 ghost use Rattle.corner_table.specs.Tables.{lists_of};
 
-use corner_table::{Owner, Slot, Standing, Table};
+use corner_table::{Slot, Standing, Table};
+use corner_view::Owner;
 use frac_core::{Frac, OutOfMemory};
 use problem_core::Rel;
 use row_core::IntRow;

@@ -15,7 +15,7 @@ ghost use Rattle.problem_core.specs.declared.stops.What.TheVariants.{Level as Le
 ghost use Rattle.problem_core.specs.declared.stops.Quantity.TheVariants.{Plain};
 ghost use Rattle.frac_core.specs.declared.memory.Stop.TheVariants.{Refused};
 ghost use Rattle.corner_laws.specs.Lifts.{HasOneIn};
-ghost use Rattle.corner_exchange.specs.Stops.{IsUnfitStop};
+ghost use Rattle.corner_view.specs.Stops.{IsUnfitStop};
 ghost use Rattle.corner_joins.specs.Additions.CostJoins.{IsLeastUnit};
 ghost use Rattle.corner_table.specs.Kept.{AreSlots, IsKept};
 ghost use Rattle.corner_leaving.specs.Leaving.{AreLeftFitting, HasMultiple, IsFittingLeft, IsLeaver};

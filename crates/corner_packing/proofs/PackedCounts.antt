@@ -9,8 +9,8 @@ use Rattle.row_core.specs.Renames.{place_in}
 use Rattle.problem_core.specs.declared.parts.Stay.{Stay}
 use Rattle.problem_core.specs.Layout.{Line, line_of_row, lines, stay_lines}
 use Rattle.problem_core.proofs.Lines.{length-stays}
-use Rattle.corner_table.specs.declared.table.Owner.{Owner}
-use Rattle.corner_table.specs.declared.table.Owner.TheVariants.{Level as LevelSlot, Attr as AttrSlot, Line as LineSlot}
+use Rattle.corner_view.specs.declared.types.Owner.{Owner}
+use Rattle.corner_view.specs.declared.types.Owner.TheVariants.{Level as LevelSlot, Attr as AttrSlot, Line as LineSlot}
 use Rattle.corner_table.specs.declared.table.TheConstants.{LEVELS}
 use Rattle.corner_table.specs.Tables.{Lists, attr_slot, line_slot, problem_of, slot_at}
 use Rattle.corner_table.specs.Kept.{IsKept, IsOwned, taken_slots}

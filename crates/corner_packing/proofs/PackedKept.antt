@@ -12,7 +12,7 @@ use Rattle.problem_core.specs.Corners.{IsCorner, attr_column}
 use Rattle.problem_core.specs.Rays.{HasRays}
 use Rattle.corner_lines.specs.LineEquations.{IsLineEquation, deviation, sign_of}
 use Rattle.corner_table.specs.declared.table.Standing.{Standing}
-use Rattle.corner_table.specs.Views.{IsNamed}
+use Rattle.corner_view.specs.Seen.{IsNamed}
 use Rattle.corner_table.specs.Tables.{Lists, attr_slot, line_slot, marks_at, number, problem_of, row_at, standing_at}
 use Rattle.corner_table.specs.Kept.{IsAttrRow, IsEquationAt, IsKept, IsLineRow}
 use Rattle.corner_table.proofs.Basics.SameEquations.{same_numbers}

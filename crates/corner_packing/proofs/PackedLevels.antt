@@ -13,12 +13,12 @@ use Rattle.corner_laws.specs.Units.{IsLevelRow}
 use Rattle.corner_lines.specs.LineEquations.{IsOutsideLine}
 use Rattle.corner_table.specs.declared.table.Standing.{Standing}
 use Rattle.corner_table.specs.declared.table.TheConstants.{LEVELS}
-use Rattle.corner_table.specs.Views.{IsNamed}
+use Rattle.corner_view.specs.Seen.{IsNamed}
 use Rattle.corner_table.specs.Tables.{Lists, entry, is_side, line_slot, marks_at, number, priority_at, problem_of, row_at, standing_at, stands_in}
 use Rattle.corner_table.specs.Kept.{HasStayRoom, IsLevelKept}
 use Rattle.corner_table.proofs.Basics.ListFacts.{to_map}
 use Rattle.corner_table.proofs.Readings.KeptFacts.{filter_same}
-use Rattle.corner_table.proofs.Readings.ReadFacts.{mark_named}
+use Rattle.corner_view.proofs.Facts.{mark_named}
 use Rattle.corner_table.proofs.Basics.OwnerFacts.{stay_named}
 use Rattle.corner_table.proofs.Basics.SmallFacts.{own_name}
 use Rattle.corner_packing.proofs.PackedPlaces.{IsPacking, after, line_place, line_taken}

@@ -11,11 +11,11 @@ use Rattle.problem_core.specs.declared.parts.Stay.{Stay}
 use Rattle.problem_core.specs.Kept.{IsRow, IsWhole}
 use Rattle.problem_core.specs.Layout.{Problem, Row, line_of_row, lines, stay_lines}
 use Rattle.problem_core.proofs.RowNames.{held-same, stay-not-held}
-use Rattle.corner_table.specs.declared.table.Owner.{Owner}
+use Rattle.corner_view.specs.declared.types.Owner.{Owner}
 use Rattle.corner_table.specs.declared.table.Table.{Table}
 use Rattle.corner_table.specs.Histories.{AreAlike, lists_before}
 use Rattle.corner_table.specs.Invariants.{IsConsistent, IsEarlier, name_of, names_of}
-use Rattle.corner_table.specs.Views.{AreCandidates, IsNamed}
+use Rattle.corner_view.specs.Seen.{AreCandidates, IsNamed}
 use Rattle.corner_table.specs.Tables.{Lists, lists_of, marks_at, problem_of, slot_at}
 use Rattle.corner_table.specs.Kept.{IsKept, IsSlot}
 use Rattle.corner_table.proofs.Readings.SlotFacts.{any_is}

@@ -8,9 +8,9 @@ use Rattle.row_core.proofs.Places.{at-elsewhere, coefficient_at}
 use Rattle.row_core.proofs.Renames.{renamed_coefficient}
 use Rattle.row_core.proofs.Walks.{nothing}
 use Rattle.problem_core.specs.declared.parts.RowName.{RowName}
-use Rattle.corner_table.specs.declared.table.Owner.TheVariants.{Line as LineSlot}
+use Rattle.corner_view.specs.declared.types.Owner.TheVariants.{Line as LineSlot}
 use Rattle.corner_table.specs.declared.table.Standing.{Standing}
-use Rattle.corner_table.specs.Views.{IsNamed}
+use Rattle.corner_view.specs.Seen.{IsNamed}
 use Rattle.corner_table.specs.Tables.{Lists, entry, line_slot, number, problem_of, row_at, slot_at, standing_at}
 use Rattle.corner_table.specs.Kept.{AreOutside, IsKept}
 use Rattle.corner_table.proofs.Readings.KeptFacts.{row_kept}

@@ -13,8 +13,8 @@ use Rattle.version_lists.specs.Indexes.{row_at}
 use Rattle.version_lists.specs.Lists.{HasColumn}
 use Rattle.version_lists.specs.Matrices.{IsBelow}
 use Rattle.version_lists.proofs.Indexing.{number_at_column}
-use Rattle.corner_table.specs.declared.table.Owner.{Owner}
-use Rattle.corner_table.specs.declared.table.Owner.TheVariants.{Level as LevelSlot, Attr as AttrSlot, Line as LineSlot}
+use Rattle.corner_view.specs.declared.types.Owner.{Owner}
+use Rattle.corner_view.specs.declared.types.Owner.TheVariants.{Level as LevelSlot, Attr as AttrSlot, Line as LineSlot}
 use Rattle.corner_table.specs.declared.table.Standing.{Standing}
 use Rattle.corner_table.specs.declared.table.TheConstants.{LEVELS}
 use Rattle.corner_table.specs.Tables.{Lists, slot_at}

@@ -4,7 +4,7 @@ use Rattle.frac_core.specs.Fraction.{IsKept}
 use Rattle.version_lists.specs.Numbers.{AreRenumbered}
 use Rattle.row_core.specs.Rows.{IsKeptRow}
 use Rattle.row_core.specs.Renames.{place_in, renamed}
-use Rattle.corner_table.specs.declared.table.Owner.TheVariants.{Level as LevelSlot}
+use Rattle.corner_view.specs.declared.types.Owner.TheVariants.{Level as LevelSlot}
 use Rattle.corner_table.specs.declared.table.Slot.{Slot}
 use Rattle.corner_table.specs.declared.table.TheConstants.{LEVELS, OWN_RANK}
 use Rattle.corner_table.specs.Tables.{Lists, row_at, slot_at, standing_at}

@@ -6,7 +6,8 @@ ghost use Rattle.corner_table.specs.Tables.{lists_of};
 ghost use Rattle.corner_packing.specs.Packing.{ArePlaces, IsTaken};
 ghost use Rattle.corner_packing.specs.Places.{AreDense};
 
-use corner_table::{LEVELS, Owner, Table, slot_at};
+use corner_table::{LEVELS, Table, slot_at};
+use corner_view::Owner;
 use frac_core::OutOfMemory;
 
 /// By slot the place that it gets, 0 of a slot of nothing, and how many places there are.

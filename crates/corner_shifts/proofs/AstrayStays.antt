@@ -14,7 +14,7 @@ use Rattle.corner_table.specs.declared.table.Standing.{Standing}
 use Rattle.corner_table.specs.declared.table.TheConstants.{LEVELS}
 use Rattle.corner_table.specs.Kept.{AreSlots, IsKept, IsLineSlot, IsStayOwner}
 use Rattle.corner_table.specs.Tables.{Lists, entry, line_slot, problem_of, slot_at, standing_at}
-use Rattle.corner_table.specs.Views.{IsNamed}
+use Rattle.corner_view.specs.Seen.{IsNamed}
 use Rattle.corner_table.proofs.Readings.WritingFacts.{line_owner}
 use Rattle.corner_exchange.specs.declared.exchange.Change.{Change}
 use Rattle.corner_exchange.specs.Swaps.Exchanges.{turned_lists}
@@ -27,7 +27,7 @@ use Rattle.corner_shifts.specs.Astray.{AreAstray, AreMovedListed, AreStaysListed
 use Rattle.corner_shifts.specs.Shifting.{AreGrown, IsShifted, growth_by, home_growth, mark_growth, sign_at, with_shifted}
 use Rattle.corner_shifts.specs.Stood.{AreFirstStood, HaveFirstStood, stay_slot, with_moved}
 use Rattle.corner_shifts.proofs.Shifts.GrownInside.{held_named, home_low}
-use Rattle.corner_table.proofs.Seen.SeenLines.{stay_line}
+use Rattle.corner_view.proofs.Seen.SeenLines.{stay_line}
 
 -- ---- what is listed
 

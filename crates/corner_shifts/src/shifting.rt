@@ -9,14 +9,15 @@ ghost use Rattle.problem_core.specs.Kept.{IsRow};
 ghost use Rattle.problem_core.specs.declared.parts.RowName as row_type;
 ghost use Rattle.problem_core.specs.declared.stops.What as what_type;
 ghost use Rattle.corner_lines.specs.Shifts.{has_constant};
-ghost use Rattle.corner_table.specs.declared.table.Owner.TheVariants.{Line as LineSlot};
+ghost use Rattle.corner_view.specs.declared.types.Owner.TheVariants.{Line as LineSlot};
 ghost use Rattle.corner_table.specs.declared.table.TheConstants.{LEVELS};
 ghost use Rattle.corner_table.specs.Histories.{AreAlike, lists_before};
 ghost use Rattle.corner_table.specs.Kept.{AreSlots, IsKept, IsSlot};
 ghost use Rattle.corner_table.specs.Reads.LevelNumbers.{IsSlotOfLine};
 ghost use Rattle.corner_shifts.specs.Shifting as shifting;
 ghost use Rattle.corner_shifts.specs.Shifting.{CanGrow, HaveGrown, IsGrowStop, IsGrown, IsGrowth, sign_at};
-ghost use Rattle.corner_shifts.specs.Shifting.{IsGrownValueStop, IsNear};
+ghost use Rattle.corner_shifts.specs.Shifting.{IsGrownValueStop};
+ghost use Rattle.corner_view.specs.Changes.{IsNear};
 ghost use Rattle.corner_shifts.specs.Shifting.{IsShifted, IsShiftedStop, IsThere, mark_growth};
 ghost use Rattle.corner_shifts.specs.Shifting.{outside_growth};
 ghost use Rattle.corner_shifts.specs.Shifting.{with_constant_at};
@@ -25,9 +26,10 @@ ghost use Rattle.corner_table.specs.Tables.{IsSign, lists_of, problem_of};
 
 use corner_exchange::{opposite, put_value, with_signs};
 use corner_table::{
-    Owner, Table, cost_share, is_level, level_of, line_slot, own_of, own_of_level, priority_at,
-    row_place, side_at, side_in, sign, slot_at, sum, unit_of, value_at, what_at,
+    Table, cost_share, is_level, level_of, line_slot, own_of, own_of_level, priority_at, row_place,
+    side_at, side_in, sign, slot_at, sum, unit_of, value_at, what_at,
 };
+use corner_view::Owner;
 use frac_core::{Frac, OutOfMemory, Stop, Unfit};
 use problem_core::{Quantity, Row, RowName, Side, TableStop, What};
 use std::alloc::Global;

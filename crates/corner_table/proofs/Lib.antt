@@ -1,4 +1,3 @@
 pub mod Corners
 pub mod Readings
 pub mod Basics
-pub mod Seen

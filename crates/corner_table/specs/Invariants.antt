@@ -2,12 +2,12 @@
 use Rattle.std.specs.Prelude.{ℕ, List, [], map, drop, All}
 use Rattle.problem_core.specs.declared.parts.RowName.{RowName}
 use Rattle.problem_core.specs.declared.parts.RowName.TheVariants.{Held, Stay as StayOf}
-use Rattle.corner_table.specs.declared.table.Owner.{Owner}
-use Rattle.corner_table.specs.declared.table.Owner.TheVariants.{Level as LevelSlot, Attr as AttrSlot}
-use Rattle.corner_table.specs.declared.table.Owner.TheVariants.{Line as LineSlot}
+use Rattle.corner_view.specs.declared.types.Owner.{Owner}
+use Rattle.corner_view.specs.declared.types.Owner.TheVariants.{Level as LevelSlot, Attr as AttrSlot}
+use Rattle.corner_view.specs.declared.types.Owner.TheVariants.{Line as LineSlot}
 use Rattle.corner_table.specs.declared.table.TheConstants.{LEVELS}
 use Rattle.corner_table.specs.declared.table.Table.{Table}
-use Rattle.corner_table.specs.Views.{AreCandidates, CornerView, IsNamed}
+use Rattle.corner_view.specs.Seen.{AreCandidates, CornerView, IsNamed}
 use Rattle.corner_table.specs.Tables.{Lists, lists_of, marks_at, problem_of, scene_at, slot_at}
 use Rattle.corner_table.specs.Kept.{IsKept, IsSlot}
 use Rattle.corner_table.specs.Histories.{AreAlike, lists_before}

@@ -9,8 +9,8 @@ use Rattle.problem_core.specs.Window.{zero_fraction}
 use Rattle.problem_core.specs.declared.parts.Rel.TheVariants.{Eq}
 use Rattle.problem_core.specs.declared.parts.RowName.TheVariants.{Held, Stay as StayOf}
 use Rattle.corner_lines.specs.Joins.{new_stay}
-use Rattle.corner_table.specs.declared.table.Owner.TheVariants.{Level as LevelSlot}
-use Rattle.corner_table.specs.declared.table.Owner.TheVariants.{Attr as AttrSlot, Line as LineSlot}
+use Rattle.corner_view.specs.declared.types.Owner.TheVariants.{Level as LevelSlot}
+use Rattle.corner_view.specs.declared.types.Owner.TheVariants.{Attr as AttrSlot, Line as LineSlot}
 use Rattle.corner_table.specs.declared.table.Slot.{Slot}
 use Rattle.corner_table.specs.declared.table.Standing.{Standing}
 use Rattle.corner_table.specs.declared.table.Table.{Table}

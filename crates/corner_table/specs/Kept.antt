@@ -21,9 +21,9 @@ use Rattle.problem_core.specs.Levels.{AreFitting, IsCostAt, IsLevelAt}
 use Rattle.problem_core.specs.Rays.{HasRays}
 use Rattle.corner_laws.specs.Units.{IsLevelRow, IsLevelUnit, IsReducedBy}
 use Rattle.corner_lines.specs.LineEquations.{IsLineEquation, IsOutsideLine, deviation, sign_of}
-use Rattle.corner_table.specs.declared.table.Owner.{Owner}
-use Rattle.corner_table.specs.declared.table.Owner.TheVariants.{Level as LevelSlot, Attr as AttrSlot}
-use Rattle.corner_table.specs.declared.table.Owner.TheVariants.{Line as LineSlot}
+use Rattle.corner_view.specs.declared.types.Owner.{Owner}
+use Rattle.corner_view.specs.declared.types.Owner.TheVariants.{Level as LevelSlot, Attr as AttrSlot}
+use Rattle.corner_view.specs.declared.types.Owner.TheVariants.{Line as LineSlot}
 use Rattle.corner_table.specs.declared.table.TheConstants.{LEVELS, MOST_SLOTS, OWN_RANK, SPARE_SLOTS}
 use Rattle.corner_table.specs.Tables.{Lists, attr_slot, entry, line_slot, marks_at, number, priority_at}
 use Rattle.corner_table.specs.Tables.{problem_of}

@@ -22,14 +22,14 @@ use Rattle.problem_core.specs.declared.parts.Level.TheVariants.{Priority, Stay a
 use Rattle.problem_core.specs.declared.stops.What.{What}
 use Rattle.problem_core.specs.declared.stops.What.TheVariants.{Attr as AttrOf, Mark as MarkOf}
 use Rattle.problem_core.specs.declared.stops.What.TheVariants.{Level as LevelOf}
-use Rattle.corner_table.specs.declared.table.Owner.TheVariants.{Level as LevelSlot}
+use Rattle.corner_view.specs.declared.types.Owner.TheVariants.{Level as LevelSlot}
 use Rattle.corner_table.specs.declared.table.TheConstants.{LEVELS}
 use Rattle.corner_table.specs.declared.table.Slot.{Slot}
 use Rattle.corner_table.specs.declared.table.Standing.{Standing}
 use Rattle.corner_table.specs.declared.table.Priority as priority_type
 use Rattle.corner_table.specs.declared.table.Table.{Table}
 use Rattle.corner_lines.specs.LineEquations.{sign_of}
-use Rattle.corner_table.specs.Views.{Scene}
+use Rattle.corner_view.specs.Seen.{Scene}
 
 -- the lists as they are now, or were at a mark
 pub record Lists : Type 0 where

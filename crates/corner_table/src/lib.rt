@@ -47,6 +47,6 @@ pub use slots::{
 };
 pub use sums::{product, sum};
 pub use table::{
-    LEVELS, MOST_SLOTS, OWN_RANK, Owner, Priority, SPARE_SLOTS, Slot, Standing, Table, back,
-    forget, is_crowded, mark, new_table, next_slot, push_slot, rewind,
+    LEVELS, MOST_SLOTS, OWN_RANK, Priority, SPARE_SLOTS, Slot, Standing, Table, back, forget,
+    is_crowded, mark, new_table, next_slot, push_slot, rewind,
 };

@@ -5,7 +5,7 @@ ghost use Rattle.corner_table.specs.Tables.{IsListedOf, inside_of, lists_of, mar
 ghost use Rattle.corner_table.specs.Tables.{row_names, stay_names};
 ghost use Rattle.corner_table.specs.Reads.Listing.{IsListedBut};
 ghost use Rattle.corner_table.specs.Kept.{AreSlots, AreStored};
-ghost use Rattle.corner_table.specs.Views.{IsNamed};
+ghost use Rattle.corner_view.specs.Seen.{IsNamed};
 ghost use Rattle.corner_table.specs.Paths.{IsPathStop};
 
 use crate::listing::Listed;

@@ -1,14 +1,16 @@
 // The attributes that have other values than at the newest mark.
 ghost use Rattle.std.specs.Prelude.{◌≡◌, ◌⊎◌, ◌<◌, ℕ, [], All, Contains, true, false, length, IfOk, OnOk};
 ghost use Rattle.std.specs.Prelude.{IfNone, IfSome};
-ghost use Rattle.corner_table.specs.declared.table.Owner.TheVariants as owner_type;
+ghost use Rattle.corner_view.specs.declared.types.Owner.TheVariants as owner_type;
 ghost use Rattle.corner_table.specs.Histories.{AreAlike};
 ghost use Rattle.corner_table.specs.Kept.{AreSlots};
-ghost use Rattle.corner_table.specs.Moves.{AreMoved, HasMoved, HasStayed, HasValue, Shows, marked_of};
+ghost use Rattle.corner_view.specs.Moves.{AreMoved, HasMoved, HasStayed, Shows};
+ghost use Rattle.corner_table.specs.Moves.{HasValue, marked_of};
 ghost use Rattle.corner_table.specs.Moves.{HaveOtherSlots, HasOwnValue, IsListed, IsListedOrStayed, Keeps};
 ghost use Rattle.corner_table.specs.Tables.{lists_of, slot_at};
 
-use crate::table::{Owner, Slot, Table};
+use crate::table::{Slot, Table};
+use corner_view::Owner;
 use frac_core::{Frac, OutOfMemory};
 
 // Whether a slot is the attribute's.

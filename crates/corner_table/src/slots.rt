@@ -10,18 +10,19 @@ ghost use Rattle.problem_core.specs.declared.parts.RowName.TheVariants as row_na
 ghost use Rattle.problem_core.specs.declared.parts.Level.TheVariants as level_names;
 ghost use Rattle.problem_core.specs.declared.parts.Side as side_type;
 ghost use Rattle.problem_core.specs.declared.stops.What.TheVariants as what_type;
-ghost use Rattle.corner_table.specs.declared.table.Owner.TheVariants as owner_type;
+ghost use Rattle.corner_view.specs.declared.types.Owner.TheVariants as owner_type;
 ghost use Rattle.corner_table.specs.declared.table.TheConstants.{LEVELS};
 ghost use Rattle.corner_table.specs.Tables as tables;
 ghost use Rattle.corner_table.specs.Tables.{IsSign, entry, lists_of, problem_of};
 ghost use Rattle.corner_table.specs.Invariants as invariants;
 ghost use Rattle.corner_table.specs.Kept.{AreSlots, HasCost, IsHeld, IsKept, IsStayOwner, level_own};
-ghost use Rattle.corner_table.specs.Views.{IsLevelOf, IsNamed};
+ghost use Rattle.corner_view.specs.Seen.{IsLevelOf, IsNamed};
 ghost use Rattle.corner_table.specs.Reads.LevelNumbers.{IsCounted, count_of, share_of, side_share, unit_at};
 ghost use Rattle.corner_laws.specs.Runs.{other_side};
 ghost use Rattle.corner_lines.specs.LineEquations.{sign_of};
 
-use crate::table::{LEVELS, Owner, Priority, Slot, Table};
+use crate::table::{LEVELS, Priority, Slot, Table};
+use corner_view::Owner;
 use frac_core::Frac;
 use problem_core::{Level, Mark, REQUIRED, Rel, RowName, Side, What};
 

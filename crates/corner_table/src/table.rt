@@ -9,6 +9,7 @@ ghost use Rattle.problem_core.specs.declared.limits.TheConstants.{ROW_LIMIT};
 ghost use Rattle.corner_table.specs.Kept.{HasSlotsLeft, IsKept};
 ghost use Rattle.corner_table.specs.Joining.{HasNoPast, with_level, with_slot};
 
+use corner_view::Owner;
 use frac_core::{Frac, OutOfMemory};
 use problem_core::{FIRST_STAY_LEVEL, ROW_LIMIT, Rel, Row, RowName, Side, Stay};
 use row_core::IntRow;
@@ -31,14 +32,6 @@ pub const SPARE_SLOTS: u32 = 64;
 
 /// The most slots that there are at a time.
 pub const MOST_SLOTS: u32 = LEVELS + 2 * 3 * ROW_LIMIT as u32 + SPARE_SLOTS;
-
-/// What a slot is of. `Level` past those of the levels is of nothing: what it was of was taken out.
-#[derive(Clone, Copy, Debug, PartialEq, Eq)]
-pub enum Owner {
-    Level,
-    Attr(u32),
-    Line(RowName),
-}
 
 /// What an exchange does not change of a slot. The home is the slot of a line's level, a stay's own. The
 /// rank, which only levels have, says which of two is stronger: the one of the lower rank. That of a priority

@@ -1,4 +1,3 @@
-pub mod Fronts
 pub mod Walks
 pub mod Entries
 pub mod Lows

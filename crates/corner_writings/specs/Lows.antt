@@ -3,33 +3,11 @@ use Rattle.std.specs.Prelude.{◌≡◌, ◌⊎◌, ◌++◌, ◌∷◌, [], ℕ
 use Rattle.std.specs.Prelude.{Contains}
 use Rattle.std.specs.Prelude.{Some, None}
 use Rattle.std.specs.declared.option.Option.{Option}
-use Rattle.frac_core.specs.Fraction.{Fraction}
-use Rattle.problem_core.specs.declared.parts.Mark.{Mark}
 use Rattle.problem_core.specs.declared.parts.RowName.{RowName}
 use Rattle.problem_core.specs.declared.parts.Side.{Side}
-use Rattle.problem_core.specs.declared.stops.What.TheVariants.{Mark as MarkOf}
-use Rattle.problem_core.specs.Layout.{Problem}
-use Rattle.problem_core.specs.Corners.{IsIn, place}
-use Rattle.corner_table.specs.Views.{HasValueAt, IsNamed, IsOutside, MovesWith}
+use Rattle.corner_view.specs.Seen.{IsNamed}
 use Rattle.corner_table.specs.Tables.{Lists, problem_of, slot_at, standing_at}
 use Rattle.corner_table.specs.Invariants.{name_of}
-
--- the mark's value is not negative
-abbrev pub HasValueUp : Problem → List Mark → Mark → Type 0
-HasValueUp p at m = (f : Fraction) × (0 < f.den) × HasValueAt p at (place m) f × (pos 0 ≤ℤ f.num)
-
--- the line is listed, or the value of the inside mark is not negative
-abbrev pub IsListedIfLow : Problem → List Mark → List RowName → Mark → Type 0
-IsListedIfLow p at names m = Contains names m.row ⊎ HasValueUp p at m
-
--- the row's inside mark and those that move with its outside marks are of listed lines, if their values are
--- negative
-pub record ListsLow (p : Problem) (at : List Mark) (row : RowName) (old new : List RowName) : Type 0 where
-  pub keeps : (name : RowName) → Contains old name → Contains new name
-  pub named : All (IsNamed p) old → All (IsNamed p) new
-  pub own : (m : Mark) → m.row ≡ row → IsIn (place m) at → IsListedIfLow p at new m
-  pub moved : (side : Side) → IsOutside p at (record { row = row; side = side }) → (m : Mark)
-      → MovesWith p at (record { row = row; side = side }) (MarkOf m) → IsListedIfLow p at new m
 
 -- ---- by slots
 

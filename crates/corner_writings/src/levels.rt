@@ -22,8 +22,8 @@ ghost use Rattle.corner_table.specs.Kept as tables_kept;
 ghost use Rattle.corner_table.specs.Kept.{AreSlots, HasCost, IsKept};
 ghost use Rattle.corner_table.specs.Tables as tables;
 ghost use Rattle.corner_table.specs.Tables.{lists_of, marks_at, problem_of};
-ghost use Rattle.corner_table.specs.Views.{IsInUse, IsLevelOf, IsMarkOf, IsStronger};
-ghost use Rattle.corner_writings.specs.Fronts.{HasNoFront, IsFoundOf, IsFrontOf};
+ghost use Rattle.corner_view.specs.Seen.{IsInUse, IsLevelOf, IsMarkOf, IsStronger};
+ghost use Rattle.corner_view.specs.Fronts.{HasNoFront, IsFoundOf, IsFrontOf};
 ghost use Rattle.corner_writings.specs.Walks as walks;
 ghost use Rattle.corner_writings.specs.Walks.{IsLevelRead, IsReducedThere};
 ghost use Rattle.corner_writings.specs.declared.levels.Found as found_type;
@@ -33,15 +33,9 @@ use corner_table::{
     line_slot, own_of, own_of_level, priority_at, priority_level, share, side_at, slot_at, unit_of,
     value_at,
 };
+use corner_view::Front;
 use frac_core::{Frac, OutOfMemory};
 use problem_core::{Level, Mark, Side};
-
-/// The first level at which a mark's reduced cost is not 0, and this cost.
-#[derive(Clone, Copy, Debug, PartialEq, Eq)]
-pub struct Front {
-    pub level: Level,
-    pub reduced: i64,
-}
 
 /// The scale of the level at a slot.
 pub fn scale_at(table: &Table, l: u32) -> i64

@@ -32,11 +32,9 @@ mod writings;
 pub use levels::fitting::{
     Draft, SMALL_SCALE, are_small, does_level_fit, does_line_fit, is_fitting, level_at, scale_of,
 };
-pub use levels::fronts::{Fronts, fronts_of};
+pub use levels::fronts::fronts_of;
 pub use levels::growing::{are_growers_dear, is_row_dear};
-pub use levels::{
-    Front, Pair, cost_at, front_of, is_stronger, reduced_at, scale_at, times_at, used,
-};
+pub use levels::{Pair, cost_at, front_of, is_stronger, reduced_at, scale_at, times_at, used};
 pub use lows::list_low;
 pub use writings::{
     attr_value, coefficient, denominator, entries_in, entry_in, is_inside, mark_value, mover,

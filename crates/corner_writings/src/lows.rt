@@ -1,9 +1,10 @@
 // The lines whose marks have negative values.
 ghost use Rattle.std.specs.Prelude.{◌≡◌, ◌↔◌, ◌<◌, length, true, All, OnOk};
 ghost use Rattle.corner_table.specs.Kept.{AreSlots, IsKept};
-ghost use Rattle.corner_writings.specs.Lows.{IsLowSlot, ListsLow, ListsSlot, ListsSlots};
+ghost use Rattle.corner_writings.specs.Lows.{IsLowSlot, ListsSlot, ListsSlots};
+ghost use Rattle.corner_view.specs.Lows.{ListsLow};
 ghost use Rattle.corner_table.specs.Tables.{lists_of, marks_at, problem_of};
-ghost use Rattle.corner_table.specs.Views.{IsNamed};
+ghost use Rattle.corner_view.specs.Seen.{IsNamed};
 
 use crate::writings::{moved, nth};
 use corner_table::{Table, line_slot, name_at, side_at, value_at};

@@ -20,10 +20,9 @@ ghost use Rattle.corner_table.specs.Tables.{problem_of};
 ghost use Rattle.corner_table.specs.Tables.{sign_of_what};
 ghost use Rattle.corner_table.specs.Kept.{AreSlots, IsKept};
 ghost use Rattle.corner_table.specs.Invariants.{seen_of};
-ghost use Rattle.corner_table.specs.Views.{AreMovers, HasValueAt, IsMarkOf, IsNamed, IsOutside};
-ghost use Rattle.corner_writings.specs.Entries.{AreEntries};
-ghost use Rattle.corner_table.specs.Views.{IsWritten};
-ghost use Rattle.corner_table.specs.Views.{IsCoefficientOf, IsScaleOf};
+ghost use Rattle.corner_view.specs.Seen.{AreMovers, HasValueAt, IsCoefficientOf, IsMarkOf, IsNamed};
+ghost use Rattle.corner_view.specs.Seen.{IsOutside, IsScaleOf, IsWritten};
+ghost use Rattle.corner_view.specs.Entries.{AreEntries};
 
 use corner_table::{
     LEVELS, Table, attr_slot, line_slot, name_at, other, own_of, side_at, side_in, sign, value_at,

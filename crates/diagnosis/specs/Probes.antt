@@ -12,7 +12,7 @@ use Rattle.cert_core.specs.Stops.{IsStopOf}
 use Rattle.cert_core.specs.declared.stops.RunStop.{RunStop}
 use Rattle.cert_core.specs.declared.stops.RunStop.TheVariants as run
 use Rattle.version_lists.specs.declared.versions.TheConstants.{VERSION_LIMIT}
-use Rattle.corner.specs.Changes.{FromAdded}
+use Rattle.corner_view.specs.AddStops.{FromAdded}
 use Rattle.layout_solver.specs.Layouts.{Layout, with_added}
 pub use Rattle.layout_solver.specs.Keeping.{NoConflict}
 use Rattle.diagnosis.specs.declared.probing.Answer.{Answer}

@@ -7,6 +7,7 @@ use crate::lacking::unmet;
 use crate::moving::all_ambiguous;
 use crate::priorities::costs;
 use crate::probing::Stopped;
+use corner_view::Tableau;
 use frac_core::{Frac, Wide};
 use layout_solver::Engine;
 use std::alloc::Global;
@@ -27,7 +28,11 @@ pub struct Diagnosis {
 ///
 /// A stop has the number of the attribute whose probe stopped. It is 0 if memory ran out before the first
 /// probe.
-pub fn diagnose(alloc: Global, e: &mut Engine, budget: u64) -> Result<Diagnosis, Stopped>
+pub fn diagnose<T: Tableau>(
+    alloc: Global,
+    e: &mut Engine<T>,
+    budget: u64,
+) -> Result<Diagnosis, Stopped>
     requires can { CanProbeAll e.old }
     ensures found { IfOk result (λ d. AreFindings e.old.problem e.old.values (findings_of d)) }
     ensures stop { IfErr result (λ s. IsStopAt e.old budget s.attr s.stop) }

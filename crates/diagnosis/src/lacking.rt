@@ -3,6 +3,7 @@ ghost use Rattle.std.specs.Prelude.{◌≡◌, ◌≢◌, ◌<◌, ◌++◌, ◌
 ghost use Rattle.problem_core.specs.Layout as layout;
 ghost use Rattle.diagnosis.specs.Unmet.{AreUnmet};
 
+use corner_view::Tableau;
 use frac_core::{OutOfMemory, Wide};
 use layout_solver::Engine;
 use problem_core::{REQUIRED, Row};
@@ -17,7 +18,11 @@ fn is_same(a: Wide, b: Wide) -> bool
 }
 
 // Appends a row with its error, if it is not required and the error is not 0.
-fn push_unmet(out: &mut Vec<(u32, Wide)>, e: &Engine, row: &Row) -> Result<(), OutOfMemory>
+fn push_unmet<T: Tableau>(
+    out: &mut Vec<(u32, Wide)>,
+    e: &Engine<T>,
+    row: &Row,
+) -> Result<(), OutOfMemory>
     requires held { Any (λ r. r ≡ row.now) e.now.problem.rows }
     ensures { IfOk result (λ _. (rows : List layout.Row) → All (λ r. r.id < row.now.id) rows
         → AreUnmet rows e.now.values out.old.items
@@ -37,7 +42,7 @@ fn push_unmet(out: &mut Vec<(u32, Wide)>, e: &Engine, row: &Row) -> Result<(), O
 }
 
 /// The rows that are not required and whose error is not 0, by number, each with its error in points.
-pub fn unmet(alloc: Global, e: &Engine) -> Result<Vec<(u32, Wide)>, OutOfMemory>
+pub fn unmet<T: Tableau>(alloc: Global, e: &Engine<T>) -> Result<Vec<(u32, Wide)>, OutOfMemory>
     ensures { IfOk result (λ out. AreUnmet e.now.problem.rows e.now.values out.items) }
 {
     e.show_layout(); // for the proof: what an engine keeps

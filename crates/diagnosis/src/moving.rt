@@ -5,6 +5,7 @@ ghost use Rattle.diagnosis.specs.Probes.{AreMoving, AreMovingAmong, CanProbeAll,
 ghost use Rattle.diagnosis.specs.Probes.{listed};
 
 use crate::probing::{Answer, DiagnoseStop, Stopped, ambiguous};
+use corner_view::Tableau;
 use frac_core::{Frac, OutOfMemory};
 use layout_solver::Engine;
 use problem_core::numbers_of;
@@ -24,10 +25,10 @@ fn push_answer(out: &mut Vec<(u32, Frac)>, attr: u32, answer: Answer) -> Result<
 }
 
 // Appends the attribute, if it moves, with the value that it reaches.
-fn push_moving(
+fn push_moving<T: Tableau>(
     alloc: Global,
     out: &mut Vec<(u32, Frac)>,
-    e: &mut Engine,
+    e: &mut Engine<T>,
     attr: u32,
     budget: u64,
 ) -> Result<(), Stopped>
@@ -53,9 +54,9 @@ fn push_moving(
 }
 
 // Those of these attributes that move, by number.
-fn moving_among(
+fn moving_among<T: Tableau>(
     alloc: Global,
-    e: &mut Engine,
+    e: &mut Engine<T>,
     attrs: &[u32],
     budget: u64,
 ) -> Result<Vec<(u32, Frac)>, Stopped>
@@ -77,9 +78,9 @@ fn moving_among(
 /// value that it reaches, as [`ambiguous`] answers. The engine does not change.
 ///
 /// A stop has the number of the attribute whose probe stopped. Those of lower numbers were probed.
-pub fn all_ambiguous(
+pub fn all_ambiguous<T: Tableau>(
     alloc: Global,
-    e: &mut Engine,
+    e: &mut Engine<T>,
     budget: u64,
 ) -> Result<Vec<(u32, Frac)>, Stopped>
     requires can { CanProbeAll e.old }

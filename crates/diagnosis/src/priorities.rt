@@ -4,6 +4,7 @@ ghost use Rattle.frac_core.specs.Fraction.{IsKept};
 ghost use Rattle.problem_core.specs.declared.limits.TheConstants.{REQUIRED};
 ghost use Rattle.diagnosis.specs.Costs.{AreCosts};
 
+use corner_view::Tableau;
 use frac_core::{Frac, OutOfMemory};
 use layout_solver::Engine;
 use problem_core::{Level, REQUIRED};
@@ -19,7 +20,11 @@ fn is_zero(sum: Frac) -> bool
 }
 
 // Appends the priority below this one with the sum of its weighted errors, if the sum is not 0.
-fn push_cost(out: &mut Vec<(u16, Frac)>, e: &Engine, above: u16) -> Result<(), OutOfMemory>
+fn push_cost<T: Tableau>(
+    out: &mut Vec<(u16, Frac)>,
+    e: &Engine<T>,
+    above: u16,
+) -> Result<(), OutOfMemory>
     requires some { 0 < above }
     requires most { above ≤ REQUIRED }
     ensures { IfOk result (λ _. AreCosts e.now.problem e.now.values above out.old.items
@@ -35,7 +40,7 @@ fn push_cost(out: &mut Vec<(u16, Frac)>, e: &Engine, above: u16) -> Result<(), O
 
 /// The priorities below that of required rows at which the sum of the weighted errors is not 0, from the
 /// greatest, each with this sum in points.
-pub fn costs(alloc: Global, e: &Engine) -> Result<Vec<(u16, Frac)>, OutOfMemory>
+pub fn costs<T: Tableau>(alloc: Global, e: &Engine<T>) -> Result<Vec<(u16, Frac)>, OutOfMemory>
     ensures { IfOk result (λ out. AreCosts e.now.problem e.now.values 1 out.items) }
 {
     let mut out = Vec::new(alloc);

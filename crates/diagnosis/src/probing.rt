@@ -11,6 +11,7 @@ ghost use Rattle.diagnosis.specs.Probes.{IsNearestValue, IsNoFurther, IsStopped,
 ghost use Rattle.diagnosis.specs.Probes.{NoConflict, next_num, side, turned, wish_row};
 
 use cert_core::{Path, RunStop, UnfitPath};
+use corner_view::Tableau;
 use frac_core::{Frac, OutOfMemory, Unfit};
 use layout_solver::{Change, Engine};
 use problem_core::{Rel, Row, Term};
@@ -154,9 +155,9 @@ fn side_of(up: bool) -> Rel
 // The value that the attribute takes on the way to the target, a point above its own or below, found by one
 // change of a constant: a row that asks for less than the attribute's own value joins without cost, and then
 // asks for the target. `None` if something stops that.
-fn pushed(
+fn pushed<T: Tableau>(
     alloc: Global,
-    e: &mut Engine,
+    e: &mut Engine<T>,
     attr: u32,
     up: bool,
     target: Frac,
@@ -192,9 +193,9 @@ fn pushed(
 }
 
 // The value that the attribute takes if the target is wished.
-fn drawn(
+fn drawn<T: Tableau>(
     alloc: Global,
-    e: &mut Engine,
+    e: &mut Engine<T>,
     attr: u32,
     up: bool,
     target: Frac,
@@ -220,9 +221,9 @@ fn drawn(
 }
 
 // The value that the attribute takes if one a point above its own, or below, is wished.
-fn probe(
+fn probe<T: Tableau>(
     alloc: Global,
-    e: &mut Engine,
+    e: &mut Engine<T>,
     attr: u32,
     up: bool,
     budget: u64,
@@ -257,9 +258,9 @@ fn is_same(a: Frac, b: Frac) -> bool
 /// runs, each with the whole budget: a row that asks for less than the value joins, its constant changes, and
 /// only if that gives no answer, a row at the wished value joins instead. A stop is one of this last run, or
 /// that there is no such value; it names the direction of its probe. The engine does not change.
-pub fn ambiguous(
+pub fn ambiguous<T: Tableau>(
     alloc: Global,
-    e: &mut Engine,
+    e: &mut Engine<T>,
     attr: u32,
     budget: u64,
 ) -> Result<Answer, DiagnoseStop>

@@ -15,7 +15,7 @@ use Rattle.script_text.specs.declared.words.AttrWord.TheVariants as word
 use Rattle.scenes.specs.Scene.{Scene}
 use Rattle.scenes.specs.Frames.{IsFrameOf}
 use Rattle.view_tree.specs.Views.{view_named, view_of}
-use Rattle.layout_solver.specs.Moves.{AreMovedSince}
+use Rattle.corner_view.specs.Moves.{AreMovedSince}
 use Rattle.session_undo.specs.Machine.{ChangeStep}
 use Rattle.session_undo.specs.Replies.{Reply, is_accepted}
 use Rattle.session_undo.specs.State.{State, IsFirst}

@@ -11,13 +11,14 @@ ghost use Rattle.reply_texts.specs.declared.reply.TheConstants.{OK_LENGTH};
 ghost use Rattle.session_undo.specs.Replies.{accepted, IsChange, MayRefuse, Tells};
 ghost use Rattle.session_undo.specs.Replies as reply;
 
+use crate::session::Session;
 use edge_io::{Failed, LINE_LIMIT, Sink, put_all};
 use frac_core::{OutOfMemory, Stop};
 use line_by_line::AnswerStop;
 use name_tables::LimitWord;
 use reply_texts::{OK_LENGTH, print_frames, reply_text, show_frames};
 use script_text::read_line_in;
-use session_undo::{Refusal, Reply, Session};
+use session_undo::{Refusal, Reply};
 use span_text::SyntaxAt;
 use std::alloc::Global;
 

@@ -34,6 +34,7 @@ mod mode;
 mod output;
 mod program;
 mod responder;
+mod session;
 mod talk;
 
 pub use claim_check::CHECK_LIMIT;
@@ -46,3 +47,4 @@ pub use line_by_line::INPUT_LIMIT;
 pub use mode::constants_are_as_said;
 pub use program::{Status, run, run_script};
 pub use responder::Responder;
+pub use session::Session;

@@ -10,10 +10,11 @@ ghost use Rattle.layout_cli.specs.Making.{last_line, refusal_count, summary_line
 
 use crate::answers::step;
 use crate::output::Output;
+use crate::session::Session;
 use frac_core::OutOfMemory;
 use make_script::make_script;
 use reply_texts::push_at;
-use session_undo::{Refusal, Reply, Session};
+use session_undo::{Refusal, Reply};
 use span_text::lines;
 use std::alloc::Global;
 

@@ -19,13 +19,14 @@ ghost use Rattle.session_undo.specs.declared.reply.Reply.TheVariants as good;
 ghost use Rattle.std.specs.declared.result.Result.TheVariants.{Ok as Accepted};
 
 use crate::answers::{put_reply, step};
+use crate::session::Session;
 use edge_io::{LINE_LIMIT, Sink};
 use frac_core::OutOfMemory;
 use line_by_line::AnswerStop;
 use reply_texts::{OK_LENGTH, reply_text};
 use scene_host::push_marked;
 use script_text::{Command, Reading, Version, is_version_line};
-use session_undo::{Limits, Refusal, Reply, Session};
+use session_undo::{Limits, Refusal, Reply};
 use std::alloc::Global;
 use std::marker::Model;
 use std::mem;

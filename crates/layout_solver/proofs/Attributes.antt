@@ -7,7 +7,7 @@ use Rattle.problem_core.specs.declared.parts.Stay.{Stay}
 use Rattle.problem_core.specs.Layout.{HasStay}
 use Rattle.problem_core.specs.Corners.{attr_column}
 use Rattle.problem_core.proofs.Forms.{each-both, each-impl}
-use Rattle.corner.specs.Views.{CornerView, HasValueAt}
+use Rattle.corner_view.specs.Seen.{CornerView, HasValueAt}
 use Rattle.layout_solver.specs.Layouts.{Layout}
 use Rattle.layout_solver.specs.Engines.{IsSolved, layout_of, HaveValues}
 use Rattle.layout_solver.specs.ValuesUnique.{IsFixed, one_number}

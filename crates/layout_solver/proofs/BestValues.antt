@@ -9,7 +9,7 @@ use Rattle.problem_core.specs.Kept.{IsWhole}
 use Rattle.problem_core.specs.Corners.{IsCorner, Point, assignment_at, attr_column, one_column}
 use Rattle.corner_laws.proofs.PathEnds.Ends.{end_is_best}
 use Rattle.corner_laws.proofs.MarkWritings.LowestForms.{attrs_are_fixed}
-use Rattle.corner.specs.Views.{CornerView, HasValueAt}
+use Rattle.corner_view.specs.Seen.{CornerView, HasValueAt}
 use Rattle.corner_ends.specs.Runs.{IsBestEnd}
 use Rattle.certificates.proofs.ErrorFacts.{turned_value}
 use Rattle.layout_solver.specs.Layouts.{IsBestValue, stays_at, zeros}

@@ -11,8 +11,9 @@ use Rattle.problem_core.specs.Corners.{NoNegativeColumn, NoNegativeValue}
 use Rattle.cert_core.specs.Paths.{Path}
 use Rattle.cert_core.specs.Stops.{IsStopOf}
 use Rattle.cert_core.specs.declared.stops.RunStop.{RunStop}
-use Rattle.corner.specs.Views.{CornerView, IsKeptCorner, Scene}
-use Rattle.corner.specs.Changes.{FromAdded, scene_of}
+use Rattle.corner_view.specs.Seen.{CornerView, IsKeptCorner, Scene}
+use Rattle.corner_view.specs.AddStops.{FromAdded}
+use Rattle.corner_view.specs.Changes.{scene_of}
 use Rattle.corner_ends.specs.Runs.{FromHere, IsBestEnd, IsRun}
 use Rattle.layout_solver.specs.declared.engine.Change.{Change}
 use Rattle.layout_solver.specs.Layouts.{AreValuesAt, IsKeptSolution, Layout, Solution, solution_of, stays_at, with_added, zeros}

@@ -2,8 +2,8 @@
 use Rattle.std.proofs.Common.{◌≡◌, ◌∙◌, ℕ, zero, suc, ◌-◌, ◌<◌, List, [], ◌∷◌, length, take, refl, sym, ap, ap₂, subst, arith, All}
 use Rattle.std.proofs.lemmas.List.Elements.{All-from_recursion, All-take, recursion_from_All}
 use Rattle.frac_core.specs.Fraction.{Fraction}
-use Rattle.corner.specs.Views.{CornerView, Scene}
-use Rattle.corner.specs.Changes.{scene_of}
+use Rattle.corner_view.specs.Seen.{CornerView, Scene}
+use Rattle.corner_view.specs.Changes.{scene_of}
 use Rattle.layout_solver.specs.Layouts.{IsKeptSolution, Layout, Solution, solution_of}
 use Rattle.layout_solver.specs.Engines.{AreItsValues, HasValues, HaveValues, IsSolved, layout_of, solution_at, solutions_at}
 use Rattle.layout_solver.specs.ValuesUnique.{lists_are_one}

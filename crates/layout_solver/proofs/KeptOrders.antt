@@ -10,8 +10,9 @@ use Rattle.cert_core.specs.Stops.{IsStopOf}
 use Rattle.cert_core.specs.declared.stops.RunStop.{RunStop}
 use Rattle.stay_orders.specs.Orders.{fronted, with_front}
 use Rattle.stay_orders.proofs.Orders.{front_each}
-use Rattle.corner.specs.Views.{CornerView, IsKeptCorner, Scene}
-use Rattle.corner.specs.Changes.{FromAdded, scene_of}
+use Rattle.corner_view.specs.Seen.{CornerView, IsKeptCorner, Scene}
+use Rattle.corner_view.specs.AddStops.{FromAdded}
+use Rattle.corner_view.specs.Changes.{scene_of}
 use Rattle.corner_ends.specs.Runs.{IsBestEnd}
 use Rattle.layout_solver.specs.Layouts.{Layout, stays_at}
 use Rattle.layout_solver.specs.Engines.{AreItsValues, HaveValues, IsMarked, IsSolved}

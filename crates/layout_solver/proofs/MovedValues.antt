@@ -7,12 +7,13 @@ use Rattle.problem_core.specs.declared.parts.Stay.{Stay}
 use Rattle.problem_core.specs.Layout.{HasStay}
 use Rattle.problem_core.specs.Corners.{attr_column}
 use Rattle.problem_core.proofs.Forms.{each-both, each-impl}
-use Rattle.corner.specs.Views.{CornerView, HasValueAt, HasValueIn, Scene}
-use Rattle.corner.specs.Changes.{scene_of}
-use Rattle.corner_table.proofs.Readings.MoveFacts.{moved_by}
+use Rattle.corner_view.specs.Seen.{CornerView, HasValueAt, Scene}
+use Rattle.corner_view.specs.Moves.{AreMovedSince, HasValueIn, Shows}
+use Rattle.corner_view.specs.Changes.{scene_of}
+use Rattle.corner_view.proofs.Facts.{moved_by}
 use Rattle.layout_solver.specs.Engines.{HaveValues, IsSolved, solution_at, solutions_at}
 use Rattle.layout_solver.specs.Layouts.{IsKeptSolution}
-use Rattle.layout_solver.specs.Moves.{AreMovedSince, HasValueOf, Shows}
+use Rattle.layout_solver.specs.Moves.{HasValueOf}
 use Rattle.layout_solver.specs.ValuesUnique.{IsFixed, one_number}
 use Rattle.layout_solver.proofs.Attributes.{find}
 use Rattle.layout_solver.proofs.Values.{fixed_at}

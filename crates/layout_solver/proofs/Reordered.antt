@@ -15,8 +15,9 @@ use Rattle.cert_core.specs.declared.stops.RunStop.TheVariants.{Conflict, Unfit, 
 use Rattle.corner_laws.proofs.WrittenValues.{contains_each}
 use Rattle.stay_orders.specs.Orders.{fronted}
 use Rattle.stay_orders.proofs.Corners.{stands}
-use Rattle.corner.specs.Views.{CornerView, IsKeptCorner}
-use Rattle.corner.specs.Changes.{FromAdded, HasStood}
+use Rattle.corner_view.specs.Seen.{CornerView, IsKeptCorner}
+use Rattle.corner_view.specs.AddStops.{FromAdded}
+use Rattle.corner_view.specs.Changes.{HasStood}
 use Rattle.corner_ends.specs.Runs.{FromHere, HasRunBetween}
 use Rattle.layout_solver.specs.Keeping.{NoConflict}
 use Rattle.layout_solver.specs.Starts.{HasAdded, IsMoved}

@@ -10,7 +10,7 @@ use Rattle.problem_core.specs.Kept.{IsRow}
 use Rattle.problem_core.specs.Levels.{IsCostAt, IsLevelAt}
 use Rattle.cert_core.specs.Claims.{BestLevel, multipliers_of}
 use Rattle.cert_checker.specs.Certifying.{Balances, EachGiven}
-use Rattle.corner.specs.Views.{CornerView, IsLevelOf}
+use Rattle.corner_view.specs.Seen.{CornerView, IsLevelOf}
 use Rattle.certificates.specs.Accepted.{IsCertified}
 use Rattle.certificates.specs.Errors.{IsErrorAt, IsLevelCost}
 use Rattle.certificates.specs.OwnLevels.{IsOwnBest}

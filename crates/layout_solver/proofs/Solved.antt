@@ -6,8 +6,8 @@ use Rattle.std.specs.Coded.{Coded-set}
 use Rattle.frac_core.specs.Fraction.{Fraction}
 use Rattle.problem_core.specs.Layout.{Problem, Row}
 use Rattle.problem_core.specs.Corners.{IsCorner}
-use Rattle.corner.specs.Views.{CornerView, IsKeptCorner, Scene}
-use Rattle.corner.specs.Changes.{scene_of}
+use Rattle.corner_view.specs.Seen.{CornerView, IsKeptCorner, Scene}
+use Rattle.corner_view.specs.Changes.{scene_of}
 use Rattle.corner_ends.specs.Runs.{IsBestEnd}
 use Rattle.layout_solver.specs.Layouts.{IsKeptSolution, Solution, stays_at, zeros}
 use Rattle.layout_solver.specs.Engines.{AreItsValues, HaveValues, IsSolved, layout_of, solutions_at}

@@ -13,8 +13,8 @@ use Rattle.problem_core.specs.Corners.{NoNegativeColumn, attr_column, column}
 use Rattle.problem_core.proofs.Refutations.{refutation-IsInConflict}
 use Rattle.problem_core.proofs.Wholes.{whole-IsProblem}
 use Rattle.corner_laws.proofs.PathEnds.Refuting.{cost_refutes}
-use Rattle.corner.specs.Views.{CornerView, HasValueAt, IsKeptCorner, Scene}
-use Rattle.corner.specs.Changes.{HasStood, scene_of}
+use Rattle.corner_view.specs.Seen.{CornerView, HasValueAt, IsKeptCorner, Scene}
+use Rattle.corner_view.specs.Changes.{HasStood, scene_of}
 use Rattle.corner_ends.specs.Runs.{IsBestEnd}
 use Rattle.layout_solver.specs.Layouts.{AreValuesAt, Layout, stays_at}
 use Rattle.layout_solver.specs.Engines.{AreItsValues, HaveValues, IsMarked, IsSolved}

@@ -24,9 +24,9 @@ use Rattle.corner_laws.proofs.PathEnds.Ends.{end_is_best}
 use Rattle.corner_laws.proofs.MarkWritings.LowestForms.{lowest_exists}
 use Rattle.corner_laws.proofs.WrittenValues.{value_there}
 use Rattle.corner_laws.specs.Equations.{AreLowest}
-use Rattle.corner.specs.Views.{CornerView, HasValueAt, IsKeptCorner}
+use Rattle.corner_view.specs.Seen.{CornerView, HasValueAt, IsKeptCorner}
 use Rattle.corner_ends.specs.Runs.{IsBestEnd}
-use Rattle.corner.specs.Changes.{scene_of}
+use Rattle.corner_view.specs.Changes.{scene_of}
 use Rattle.layout_solver.specs.Layouts.{AreBest}
 use Rattle.layout_solver.specs.Engines.{AreItsValues}
 use Rattle.layout_solver.specs.ValuesUnique.{IsFixed, fixed_attrs, one_number}

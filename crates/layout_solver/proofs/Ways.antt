@@ -10,8 +10,9 @@ use Rattle.cert_core.specs.Paths.{Path}
 use Rattle.cert_core.specs.Stops.{IsStopOf}
 use Rattle.cert_core.specs.declared.stops.RunStop.{RunStop}
 use Rattle.stay_orders.specs.Orders.{fronted}
-use Rattle.corner.specs.Views.{CornerView, IsKeptCorner}
-use Rattle.corner.specs.Changes.{FromAdded, HasStood}
+use Rattle.corner_view.specs.Seen.{CornerView, IsKeptCorner}
+use Rattle.corner_view.specs.AddStops.{FromAdded}
+use Rattle.corner_view.specs.Changes.{HasStood}
 use Rattle.corner_ends.specs.Runs.{FromHere, HasEnded, IsBestEnd, IsRun}
 use Rattle.layout_solver.specs.declared.engine.Change.{Change}
 use Rattle.layout_solver.specs.declared.request.Request.{Request}

@@ -6,8 +6,8 @@ use Rattle.problem_core.specs.Layout.{Row, Problem}
 use Rattle.cert_core.specs.Paths.{Path}
 use Rattle.cert_core.specs.Stops.{IsStopOf}
 use Rattle.cert_core.specs.declared.stops.RunStop.{RunStop}
-use Rattle.corner.specs.Changes.{FromAdded}
-use Rattle.corner.specs.Views.{in_order}
+use Rattle.corner_view.specs.AddStops.{FromAdded}
+use Rattle.corner_view.specs.Seen.{in_order}
 use Rattle.corner_ends.specs.Runs.{FromHere, IsBestEnd, IsRun}
 use Rattle.layout_solver.specs.Layouts.{GivesAt}
 

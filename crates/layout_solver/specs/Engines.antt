@@ -3,8 +3,8 @@ use Rattle.std.specs.Prelude.{◌≡◌, ◌<◌, ℕ, List, [], ◌∷◌, leng
 use Rattle.frac_core.specs.Fraction.{Fraction, IsLowest}
 use Rattle.problem_core.specs.Corners.{IsCorner}
 use Rattle.version_lists.specs.declared.versions.TheConstants.{VERSION_LIMIT}
-use Rattle.corner.specs.Views.{CornerView, IsKeptCorner, Scene}
-use Rattle.corner.specs.Changes.{scene_of}
+use Rattle.corner_view.specs.Seen.{CornerView, IsKeptCorner, Scene}
+use Rattle.corner_view.specs.Changes.{scene_of}
 use Rattle.layout_solver.specs.Layouts.{AreValuesAt, IsKeptSolution, Layout, Solution}
 
 -- the values of the attributes at the corner, and no others

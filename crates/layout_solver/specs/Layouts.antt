@@ -6,7 +6,7 @@ use Rattle.problem_core.specs.declared.parts.Mark.{Mark}
 use Rattle.problem_core.specs.Layout.{Row, Problem, Assignment, IsBest, Gives}
 use Rattle.problem_core.specs.Window.{zero_fraction}
 use Rattle.problem_core.specs.Corners.{Point, StandsAt, assignment_at, attr_column}
-use Rattle.corner.specs.Views.{HasValueAt, IsKeptCorner}
+use Rattle.corner_view.specs.Seen.{HasValueAt, IsKeptCorner}
 use Rattle.corner_ends.specs.Runs.{IsBestEnd}
 
 -- The fractions in lowest terms are the values that a best assignment gives the stays' attributes. No other

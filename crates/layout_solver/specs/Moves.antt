@@ -1,8 +1,7 @@
--- The values that attributes have in a solution, and what has moved: words written below, passed on.
+-- The values that attributes have in a solution.
 use Rattle.std.specs.Prelude.{◌≡◌, ℕ, Any}
 use Rattle.frac_core.specs.Fraction.{Fraction}
 use Rattle.layout_solver.specs.Layouts.{Solution}
-pub use Rattle.corner.specs.Views.{Shows, HasMoved, HasStayed, AreMoved, AreMovedSince}
 
 -- the attribute has this value
 abbrev pub HasValueOf : Solution → ℕ → Fraction → Type 0

@@ -13,7 +13,7 @@ use Rattle.corner_ends.specs.Runs.{FromHere, IsRun}
 use Rattle.cert_core.specs.declared.stops.RunStop.{RunStop}
 use Rattle.cert_core.specs.declared.stops.RunStop.TheVariants.{Unfit as UnfitRun, Spent as SpentRun}
 use Rattle.cert_core.specs.Stops.{IsStopOf}
-use Rattle.corner.specs.Views.{CornerView, IsKeptCorner, in_order}
+use Rattle.corner_view.specs.Seen.{CornerView, in_order, IsKeptCorner}
 use Rattle.corner_lines.specs.Removals.{without_attr, without_row}
 use Rattle.marker_remove.specs.Freed.{DoStand}
 use Rattle.layout_solver.specs.declared.request.RequestStop.{RequestStop}

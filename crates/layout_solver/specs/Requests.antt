@@ -6,7 +6,7 @@ use Rattle.cert_core.specs.Paths.{Path}
 use Rattle.cert_core.specs.Stops.{IsStopOf}
 use Rattle.cert_core.specs.declared.stops.RunStop.{RunStop}
 use Rattle.cert_core.specs.declared.stops.RunStop.TheVariants as run
-use Rattle.corner.specs.Changes.{FromAdded}
+use Rattle.corner_view.specs.AddStops.{FromAdded}
 use Rattle.corner_ends.specs.Runs.{FromHere, IsRun}
 use Rattle.layout_solver.specs.declared.engine.Change.{Change}
 use Rattle.layout_solver.specs.declared.request.Request.{Request}

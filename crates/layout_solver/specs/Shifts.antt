@@ -11,8 +11,8 @@ use Rattle.problem_core.specs.Unfit.{IsUnfit}
 use Rattle.cert_core.specs.Stops.{IsStopOf}
 use Rattle.cert_core.specs.declared.stops.RunStop.{RunStop}
 use Rattle.corner_ends.specs.Runs.{FromHere}
-use Rattle.corner.specs.Shifts.Shifting.{IsNear}
-use Rattle.corner.specs.Views.{CornerView, Scene}
+use Rattle.corner_view.specs.Changes.{IsNear}
+use Rattle.corner_view.specs.Seen.{CornerView, Scene}
 use Rattle.corner_lines.specs.Shifts.{has_constant, with_constant}
 use Rattle.layout_solver.specs.declared.engine.Change.{Change}
 use Rattle.layout_solver.specs.Layouts.{Layout, stays_at}

@@ -8,8 +8,9 @@ use Rattle.problem_core.specs.declared.parts.Stay.{Stay}
 use Rattle.problem_core.specs.Layout.{Problem, Row}
 use Rattle.problem_core.specs.Kept.{IsNumber}
 use Rattle.cert_core.specs.Paths.{Path}
-use Rattle.corner.specs.Changes.{FromAdded, scene_of}
-use Rattle.corner.specs.Views.{CornerView, Scene}
+use Rattle.corner_view.specs.AddStops.{FromAdded}
+use Rattle.corner_view.specs.Changes.{scene_of}
+use Rattle.corner_view.specs.Seen.{CornerView, Scene}
 use Rattle.corner_ends.specs.Runs.{IsRun}
 use Rattle.layout_solver.specs.Layouts.{AreValuesAt, stays_at, zeros}
 

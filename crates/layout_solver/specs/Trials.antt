@@ -7,7 +7,8 @@ use Rattle.problem_core.specs.Layout.{Problem, Row}
 use Rattle.cert_core.specs.Stops.{IsStopOf}
 use Rattle.cert_core.specs.declared.stops.RunStop.{RunStop}
 use Rattle.cert_core.specs.declared.stops.RunStop.TheVariants.{OutOfMemory}
-use Rattle.corner.specs.Changes.{FromAdded, IsUnfitStop}
+use Rattle.corner_view.specs.AddStops.{FromAdded}
+use Rattle.corner_view.specs.Stops.{IsUnfitStop}
 use Rattle.corner_ends.specs.Runs.{FromHere, IsBestEnd}
 use Rattle.corner_lines.specs.Shifts.{with_constant}
 use Rattle.layout_solver.specs.declared.engine.Change.{Change}

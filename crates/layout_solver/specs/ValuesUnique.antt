@@ -13,7 +13,7 @@ use Rattle.problem_core.specs.declared.parts.Stay.{Stay}
 use Rattle.problem_core.specs.Layout.{Problem}
 use Rattle.problem_core.specs.Corners.{Agree, IsCorner, Point, StandsAt, attr_column, one_column}
 use Rattle.frac_core.proofs.Numbers.{as-natural as above-zero}
-use Rattle.corner.specs.Views.{HasValueAt, Scene}
+use Rattle.corner_view.specs.Seen.{HasValueAt, Scene}
 use Rattle.layout_solver.specs.Engines.{AreItsValues, HasValues, HaveValues}
 use Rattle.frac_core.proofs.OneFraction.{one_value}
 use Rattle.frac_core.proofs.Made.{same_fraction}

@@ -5,20 +5,20 @@ ghost use Rattle.problem_core.specs.Kept.{IsWhole};
 ghost use Rattle.problem_core.specs.Corners.{NoNegativeValue};
 ghost use Rattle.cert_core.specs.Stops.{IsStopOf};
 ghost use Rattle.corner_laws.specs.Lifts.{with_rows as with_more};
-ghost use Rattle.corner.specs.Changes.{FromAdded};
+ghost use Rattle.corner_view.specs.AddStops.{FromAdded};
 ghost use Rattle.corner_ends.specs.Runs.{HasEnded};
 ghost use Rattle.layout_solver.specs.Layouts.{stays_at, zeros};
 ghost use Rattle.layout_solver.specs.Starts.{CanTake, HasAdded, IsMoved, attrs_of};
 
 use cert_core::RunStop;
-use corner::Corner;
+use corner_view::{Corner, Tableau};
 use frac_core::{Frac, OutOfMemory};
 use primal_run::settle;
 use problem_core::Row;
 use std::alloc::Global;
 
 // Adds attributes at 0.
-fn add_attrs(c: &mut Corner, attrs: &[u32]) -> Result<(), OutOfMemory>
+fn add_attrs<T: Tableau>(c: &mut Corner<T>, attrs: &[u32]) -> Result<(), OutOfMemory>
     requires marked { 0 < length c.old.before }
     requires room { CanTake (attrs_of c.old.problem) attrs.now }
     ensures problem { IfOk result (λ _. c.new.problem ≡ record {
@@ -36,7 +36,12 @@ fn add_attrs(c: &mut Corner, attrs: &[u32]) -> Result<(), OutOfMemory>
 }
 
 /// Adds rows, and goes on to the best corner.
-pub(crate) fn join(alloc: Global, c: &mut Corner, rows: &[Row], budget: u64) -> Result<(), RunStop>
+pub(crate) fn join<T: Tableau>(
+    alloc: Global,
+    c: &mut Corner<T>,
+    rows: &[Row],
+    budget: u64,
+) -> Result<(), RunStop>
     requires marked { 0 < length c.old.before }
     requires whole { IsWhole (with_more rows.now c.old.problem) }
     requires values { NoNegativeValue c.old.problem c.old.marks }
@@ -55,7 +60,7 @@ pub(crate) fn join(alloc: Global, c: &mut Corner, rows: &[Row], budget: u64) -> 
 }
 
 // Moves the stays to the present values, and adds attributes at 0.
-fn widen(c: &mut Corner, attrs: &[u32]) -> Result<(), OutOfMemory>
+fn widen<T: Tableau>(c: &mut Corner<T>, attrs: &[u32]) -> Result<(), OutOfMemory>
     requires marked { 0 < length c.old.before }
     requires room { CanTake (attrs_of c.old.problem) attrs.now }
     ensures moved { IfOk result (λ _. IsMoved c.old attrs.now c.old.problem.rows c.new.problem) }
@@ -68,9 +73,9 @@ fn widen(c: &mut Corner, attrs: &[u32]) -> Result<(), OutOfMemory>
 }
 
 /// Moves the stays to the present values, adds attributes at 0 and rows, and goes on to the best corner.
-pub(crate) fn extend(
+pub(crate) fn extend<T: Tableau>(
     alloc: Global,
-    c: &mut Corner,
+    c: &mut Corner<T>,
     attrs: &[u32],
     rows: &[Row],
     budget: u64,

@@ -14,8 +14,8 @@ ghost use Rattle.certificates.specs.Accepted.{IsCertified};
 ghost use Rattle.certificates.specs.Errors.{IsErrorAt, IsLevelCost};
 ghost use Rattle.certificates.specs.OwnLevels.{IsOwnBest};
 ghost use Rattle.corner_lines.specs.Shifts.{with_constant};
-ghost use Rattle.corner.specs.Changes.{FromAdded, scene_of};
-ghost use Rattle.corner.specs.Shifts.Shifting.{IsNear};
+ghost use Rattle.corner_view.specs.AddStops.{FromAdded};
+ghost use Rattle.corner_view.specs.Changes.{IsNear, scene_of};
 ghost use Rattle.version_lists.specs.declared.versions.TheConstants.{VERSION_LIMIT};
 ghost use Rattle.layout_solver.specs.Layouts.{AreApart, AreBest, IsBestValue, IsKeptLayout};
 ghost use Rattle.layout_solver.specs.Layouts.{IsKeptSolution};
@@ -32,7 +32,7 @@ use crate::solving::go;
 use crate::trying::{TrialStop, pushed, tried};
 use cert_core::{Best, RunStop};
 use certificates::{certificate, error};
-use corner::Corner;
+use corner_view::{Corner, Tableau};
 use frac_core::{Frac, OutOfMemory, Wide};
 use problem_core::{Level, Problem, Row, Stay};
 use std::alloc::Global;
@@ -47,14 +47,14 @@ pub struct Change {
 
 /// A problem with its best values and their corner, and earlier ones.
 #[derive(Drop)]
-pub struct Engine {
-    corner: Corner,
+pub struct Engine<T: Tableau> {
+    corner: Corner<T>,
     alloc: Global,
     ghost values: { HasValues (scene_of corner) } by { one_list (scene_of corner) },
     ghost earlier: { HaveValues corner.before } by { lists_are_one corner.before },
 }
 
-impl Model for Engine {
+impl<T: Tableau> Model for Engine<T> {
     ghost use Rattle.layout_solver.specs.Layouts.{Layout};
     ghost use Rattle.layout_solver.specs.Engines.{IsSolved, layout_of};
 
@@ -65,9 +65,9 @@ impl Model for Engine {
     ghost invariant = { λ e. IsSolved e.corner e.values.0 e.earlier };
 }
 
-impl Engine {
+impl<T: Tableau> Engine<T> {
     /// An engine without attributes and rows.
-    pub fn new(alloc: Global) -> Result<Engine, OutOfMemory>
+    pub fn new(alloc: Global) -> Result<Engine<T>, OutOfMemory>
         ensures { IfOk result (λ e. e ≡ record {
           problem = record { rows = []; stays = [] };
           values = [];

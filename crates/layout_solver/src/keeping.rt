@@ -4,22 +4,22 @@ ghost use Rattle.problem_core.specs.Layout as layout;
 ghost use Rattle.problem_core.specs.Layout.{HasStay, Satisfies};
 ghost use Rattle.problem_core.specs.Corners.{NoNegativeValue};
 ghost use Rattle.cert_core.specs.Stops.{IsStopOf};
-ghost use Rattle.corner.specs.Changes.{FromAdded};
+ghost use Rattle.corner_view.specs.AddStops.{FromAdded};
 ghost use Rattle.corner_ends.specs.Runs.{HasEnded};
 ghost use Rattle.layout_solver.specs.Keeping.{NoConflict};
 ghost use Rattle.layout_solver.specs.Starts.{HasAdded, IsMoved};
 ghost use Rattle.stay_orders.specs.Orders.{fronted};
 
 use cert_core::RunStop;
-use corner::Corner;
+use corner_view::{Corner, Tableau};
 use primal_run::settle;
 use std::alloc::Global;
 
 /// Moves the stays to the present values, puts those of these attributes first, and goes on to the best
 /// corner. It begins at the marks that are inside.
-pub(crate) fn reorder(
+pub(crate) fn reorder<T: Tableau>(
     alloc: Global,
-    c: &mut Corner,
+    c: &mut Corner<T>,
     attrs: &[u32],
     budget: u64,
 ) -> Result<(), RunStop>

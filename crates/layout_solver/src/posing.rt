@@ -11,13 +11,14 @@ ghost use Rattle.layout_solver.specs.Shifts.{shifted, with_shifts};
 
 use crate::engine::{Change, Engine};
 use crate::request::Request;
+use corner_view::Tableau;
 use frac_core::{Frac, OutOfMemory};
 use problem_core::{Problem, Row, Stay};
 use stay_orders::in_front;
 use std::alloc::Global;
 
 // The stays, at the present values.
-fn moved_stays(alloc: Global, engine: &Engine) -> Result<Vec<Stay>, OutOfMemory>
+fn moved_stays<T: Tableau>(alloc: Global, engine: &Engine<T>) -> Result<Vec<Stay>, OutOfMemory>
     ensures { IfOk result (λ stays. stays.items ≡ stays_at engine.now.values) }
 {
     engine.show_layout(); // for the proof: what an engine keeps
@@ -125,9 +126,9 @@ fn left_stays(alloc: Global, stays: &[Stay], gone: &[u32]) -> Result<Vec<Stay>, 
 }
 
 // The problem with more attributes and rows, the stays at the present values.
-fn with_more(
+fn with_more<T: Tableau>(
     alloc: Global,
-    engine: &Engine,
+    engine: &Engine<T>,
     attrs: &[u32],
     mut rows: Vec<Row>,
 ) -> Result<Problem, OutOfMemory>
@@ -142,7 +143,11 @@ fn with_more(
 }
 
 // The problem with these constants, the stays at the present values.
-fn with_others(alloc: Global, engine: &Engine, to: &[Change]) -> Result<Problem, OutOfMemory>
+fn with_others<T: Tableau>(
+    alloc: Global,
+    engine: &Engine<T>,
+    to: &[Change],
+) -> Result<Problem, OutOfMemory>
     ensures { IfOk result (λ p. p ≡ with_shifts engine.now to.now) }
 {
     engine.show_layout(); // for the proof: what an engine keeps
@@ -152,7 +157,11 @@ fn with_others(alloc: Global, engine: &Engine, to: &[Change]) -> Result<Problem,
 }
 
 // The problem with the stays of these attributes first, all at the present values.
-fn with_first(alloc: Global, engine: &Engine, attrs: &[u32]) -> Result<Problem, OutOfMemory>
+fn with_first<T: Tableau>(
+    alloc: Global,
+    engine: &Engine<T>,
+    attrs: &[u32],
+) -> Result<Problem, OutOfMemory>
     requires held { All (HasStay engine.now.problem.stays) attrs.now }
     requires apart { AllPairs (λ a b. a ≢ b) attrs.now }
     ensures { IfOk result (λ p. p ≡ with_kept engine.now attrs.now) }
@@ -165,9 +174,9 @@ fn with_first(alloc: Global, engine: &Engine, attrs: &[u32]) -> Result<Problem, 
 }
 
 // The problem without these rows and attributes, the stays at the present values.
-fn with_less(
+fn with_less<T: Tableau>(
     alloc: Global,
-    engine: &Engine,
+    engine: &Engine<T>,
     rows: &[u32],
     attrs: &[u32],
 ) -> Result<Problem, OutOfMemory>
@@ -182,7 +191,7 @@ fn with_less(
 }
 
 /// The engine's problem, in copies of its rows.
-pub(crate) fn as_held(alloc: Global, engine: &Engine) -> Result<Problem, OutOfMemory>
+pub(crate) fn as_held<T: Tableau>(alloc: Global, engine: &Engine<T>) -> Result<Problem, OutOfMemory>
     ensures { IfOk result (λ p. p ≡ engine.now.problem) }
 {
     engine.show_layout(); // for the proof: what an engine keeps
@@ -192,9 +201,9 @@ pub(crate) fn as_held(alloc: Global, engine: &Engine) -> Result<Problem, OutOfMe
 }
 
 /// The problem that a request would have the engine solve, in copies of its rows.
-pub(crate) fn posed(
+pub(crate) fn posed<T: Tableau>(
     alloc: Global,
-    engine: &Engine,
+    engine: &Engine<T>,
     request: Request,
 ) -> Result<Problem, OutOfMemory>
     requires { CanSolve engine.now request }

@@ -2,7 +2,7 @@
 ghost use Rattle.std.specs.Prelude.{◌≡◌, ℕ, true, false, Any, IfSome, IfNone};
 ghost use Rattle.problem_core.specs.Layout.{HasStay, Problem};
 ghost use Rattle.problem_core.specs.Levels.{IsLevelAt};
-ghost use Rattle.corner.specs.Views.{IsLevelOf};
+ghost use Rattle.corner_view.specs.Seen.{IsLevelOf};
 
 use problem_core::{Level, REQUIRED, Row, Stay};
 

@@ -15,7 +15,7 @@ ghost use Rattle.layout_solver.specs.Starts.{IsMoved};
 
 use crate::request::RequestStop;
 use cert_core::{Path, RunStop, UnfitPath};
-use corner::Corner;
+use corner_view::{Corner, Tableau};
 use frac_core::{OutOfMemory, Stop};
 use marker_remove::free_row;
 use primal_run::settle;
@@ -44,7 +44,11 @@ fn push_other(out: &mut Vec<Mark>, mark: Mark, id: u32) -> Result<(), OutOfMemor
 }
 
 // The marks inside, except those of a row.
-fn marks_without(alloc: Global, c: &Corner, id: u32) -> Result<Vec<Mark>, OutOfMemory>
+fn marks_without<T: Tableau>(
+    alloc: Global,
+    c: &Corner<T>,
+    id: u32,
+) -> Result<Vec<Mark>, OutOfMemory>
     ensures { IfOk result (λ marks. marks.items ≡ without_marks (id ∷ []) c.now.marks) }
 {
     let inside = c.marks()?;
@@ -56,7 +60,7 @@ fn marks_without(alloc: Global, c: &Corner, id: u32) -> Result<Vec<Mark>, OutOfM
 }
 
 // The path of no exchange at the corner without a row.
-fn path_without(alloc: Global, c: &Corner, id: u32) -> Result<Path, OutOfMemory>
+fn path_without<T: Tableau>(alloc: Global, c: &Corner<T>, id: u32) -> Result<Path, OutOfMemory>
     ensures { IfOk result (λ path. path ≡ record {
       dual = false;
       corner = without_marks (id ∷ []) c.now.marks;
@@ -67,7 +71,12 @@ fn path_without(alloc: Global, c: &Corner, id: u32) -> Result<Path, OutOfMemory>
 }
 
 // Brings a mark of the next leaving row into the basis.
-fn free_next(alloc: Global, c: &mut Corner, rows: &[u32], gone: usize) -> Result<(), RequestStop>
+fn free_next<T: Tableau>(
+    alloc: Global,
+    c: &mut Corner<T>,
+    rows: &[u32],
+    gone: usize,
+) -> Result<(), RequestStop>
     requires marked { 0 < length c.old.before }
     requires within { gone < length rows.now }
     requires held { Any (λ r. r.id ≡ get_or rows.now gone 0) c.old.problem.rows }
@@ -89,7 +98,12 @@ fn free_next(alloc: Global, c: &mut Corner, rows: &[u32], gone: usize) -> Result
 }
 
 // Takes the next leaving row out, which has a mark inside.
-fn drop_next(alloc: Global, c: &mut Corner, rows: &[u32], gone: usize) -> Result<(), RequestStop>
+fn drop_next<T: Tableau>(
+    alloc: Global,
+    c: &mut Corner<T>,
+    rows: &[u32],
+    gone: usize,
+) -> Result<(), RequestStop>
     requires marked { 0 < length c.old.before }
     requires within { gone < length rows.now }
     requires inside { HasMarkIn c.old.marks (get_or rows.now gone 0) }
@@ -112,7 +126,7 @@ fn drop_next(alloc: Global, c: &mut Corner, rows: &[u32], gone: usize) -> Result
 }
 
 // Takes rows out, one by one.
-fn drop_rows(alloc: Global, c: &mut Corner, rows: &[u32]) -> Result<(), RequestStop>
+fn drop_rows<T: Tableau>(alloc: Global, c: &mut Corner<T>, rows: &[u32]) -> Result<(), RequestStop>
     requires marked { 0 < length c.old.before }
     requires held { All (λ id. Any (λ r. r.id ≡ id) c.old.problem.rows) rows.now }
     requires apart { AllPairs (λ a b. a ≢ b) rows.now }
@@ -131,7 +145,7 @@ fn drop_rows(alloc: Global, c: &mut Corner, rows: &[u32]) -> Result<(), RequestS
 }
 
 // Takes out attributes that no row names.
-fn drop_attrs(c: &mut Corner, attrs: &[u32]) -> Result<(), OutOfMemory>
+fn drop_attrs<T: Tableau>(c: &mut Corner<T>, attrs: &[u32]) -> Result<(), OutOfMemory>
     requires marked { 0 < length c.old.before }
     requires held { All (HasStay c.old.problem.stays) attrs.now }
     requires apart { AllPairs (λ a b. a ≢ b) attrs.now }
@@ -147,7 +161,7 @@ fn drop_attrs(c: &mut Corner, attrs: &[u32]) -> Result<(), OutOfMemory>
 }
 
 // Goes on to the best corner. The required rows have a solution.
-fn settle_left(alloc: Global, c: &mut Corner, budget: u64) -> Result<(), RequestStop>
+fn settle_left<T: Tableau>(alloc: Global, c: &mut Corner<T>, budget: u64) -> Result<(), RequestStop>
     requires marked { 0 < length c.old.before }
     requires values { NoNegativeValue c.old.problem c.old.marks }
     requires satisfied { (x : layout.Assignment) × layout.Satisfies c.old.problem x }
@@ -171,7 +185,12 @@ fn settle_left(alloc: Global, c: &mut Corner, budget: u64) -> Result<(), Request
 }
 
 // Takes attributes out, and goes on to the best corner.
-fn leave_attrs(alloc: Global, c: &mut Corner, attrs: &[u32], budget: u64) -> Result<(), RequestStop>
+fn leave_attrs<T: Tableau>(
+    alloc: Global,
+    c: &mut Corner<T>,
+    attrs: &[u32],
+    budget: u64,
+) -> Result<(), RequestStop>
     requires marked { 0 < length c.old.before }
     requires held { All (HasStay c.old.problem.stays) attrs.now }
     requires apart { AllPairs (λ a b. a ≢ b) attrs.now }
@@ -194,9 +213,9 @@ fn leave_attrs(alloc: Global, c: &mut Corner, attrs: &[u32], budget: u64) -> Res
 }
 
 // Takes rows and attributes out, and goes on to the best corner. The stays are at the present values.
-fn take_out(
+fn take_out<T: Tableau>(
     alloc: Global,
-    c: &mut Corner,
+    c: &mut Corner<T>,
     rows: &[u32],
     attrs: &[u32],
     budget: u64,
@@ -221,9 +240,9 @@ fn take_out(
 }
 
 /// Moves the stays to the present values, takes rows and attributes out, and goes on to the best corner.
-pub(crate) fn shrink(
+pub(crate) fn shrink<T: Tableau>(
     alloc: Global,
-    c: &mut Corner,
+    c: &mut Corner<T>,
     rows: &[u32],
     attrs: &[u32],
     budget: u64,

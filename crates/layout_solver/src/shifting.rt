@@ -12,7 +12,7 @@ ghost use Rattle.layout_solver.specs.Starts.{IsMoved};
 
 use crate::engine::Change;
 use cert_core::{Path, RunStop, UnfitPath};
-use corner::Corner;
+use corner_view::{Corner, Tableau};
 use dual_run::{restore, shift};
 use frac_core::{Frac, OutOfMemory, Stop};
 use problem_core::{Quantity, Row, RowName};
@@ -32,14 +32,19 @@ fn constant_of(rows: &[Row], id: u32) -> Frac
 }
 
 // The path without an exchange at the corner.
-fn path_here(alloc: Global, c: &Corner) -> Result<Path, OutOfMemory>
+fn path_here<T: Tableau>(alloc: Global, c: &Corner<T>) -> Result<Path, OutOfMemory>
     ensures { IfOk result (λ path. path ≡ record { dual = true; corner = c.now.marks; swaps = [] }) }
 {
     Path::of(alloc, true, &c.marks()?, &[])
 }
 
 // The stop if a quantity does not fit after so many constants changed.
-fn shifts_stop(alloc: Global, c: &Corner, quantity: Quantity, changed: u32) -> RunStop
+fn shifts_stop<T: Tableau>(
+    alloc: Global,
+    c: &Corner<T>,
+    quantity: Quantity,
+    changed: u32,
+) -> RunStop
     requires { IsPlain quantity }
     ensures { IsShiftsStop c.now.marks quantity changed result }
 {
@@ -68,9 +73,9 @@ fn no_line(alloc: Global) -> Result<Vec<RowName>, OutOfMemory>
 
 // Gives rows other constants, one by one, and lists the lines whose values are negative with them. A
 // constant that a row has already is no change.
-fn shift_all(
+fn shift_all<T: Tableau>(
     alloc: Global,
-    c: &mut Corner,
+    c: &mut Corner<T>,
     low: &mut Vec<RowName>,
     to: &[Change],
 ) -> Result<(), RunStop>
@@ -108,9 +113,9 @@ fn shift_all(
 }
 
 /// Moves the stays to the present values, gives rows other constants, and goes on to the best corner.
-pub(crate) fn alter(
+pub(crate) fn alter<T: Tableau>(
     alloc: Global,
-    c: &mut Corner,
+    c: &mut Corner<T>,
     to: &[Change],
     budget: u64,
 ) -> Result<(), RunStop>

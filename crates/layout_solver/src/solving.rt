@@ -12,7 +12,7 @@ use crate::removing::shrink;
 use crate::request::{Request, RequestStop, stop_of};
 use crate::shifting::alter;
 use cert_core::RunStop;
-use corner::Corner;
+use corner_view::{Corner, Tableau};
 use std::alloc::Global;
 
 // The outcome of a run, as that of a request.
@@ -27,9 +27,9 @@ fn end_of(alloc: Global, run: Result<(), RunStop>) -> Result<(), RequestStop>
 }
 
 /// Goes on to the best corner of a request's problem. The corner has just been marked.
-pub(crate) fn go(
+pub(crate) fn go<T: Tableau>(
     alloc: Global,
-    c: &mut Corner,
+    c: &mut Corner<T>,
     request: &Request,
     budget: u64,
 ) -> Result<(), RequestStop>

@@ -4,21 +4,21 @@ ghost use Rattle.problem_core.specs.Layout as layout;
 ghost use Rattle.problem_core.specs.Kept.{IsWhole};
 ghost use Rattle.problem_core.specs.Corners.{NoNegativeValue};
 ghost use Rattle.cert_core.specs.Stops.{IsStopOf};
-ghost use Rattle.corner.specs.Changes.{FromAdded};
+ghost use Rattle.corner_view.specs.AddStops.{FromAdded};
 ghost use Rattle.corner_ends.specs.Runs.{HasEnded};
 ghost use Rattle.layout_solver.specs.Starts.{HasAdded, IsMarkedHere, as_problem};
 ghost use Rattle.layout_solver.specs.Trials.{AreLed, IsEachStop, IsJoinStop, IsLeadStop};
 
 use crate::changing::join;
 use cert_core::RunStop;
-use corner::Corner;
+use corner_view::{Corner, Tableau};
 use frac_core::OutOfMemory;
 use primal_run::settle;
 use problem_core::{Row, Stay};
 use std::alloc::Global;
 
 // Adds the attributes of these stays at their targets.
-fn add_stays(c: &mut Corner, stays: &[Stay]) -> Result<(), OutOfMemory>
+fn add_stays<T: Tableau>(c: &mut Corner<T>, stays: &[Stay]) -> Result<(), OutOfMemory>
     requires marked { 0 < length c.old.before }
     requires new { c.old.problem ≡ as_problem [] [] }
     requires whole { IsWhole (as_problem [] stays.now) }
@@ -34,7 +34,7 @@ fn add_stays(c: &mut Corner, stays: &[Stay]) -> Result<(), OutOfMemory>
 }
 
 // A corner of these stays at their targets and no row, after a mark.
-fn with_stays(alloc: Global, stays: &[Stay]) -> Result<Corner, OutOfMemory>
+fn with_stays<T: Tableau>(alloc: Global, stays: &[Stay]) -> Result<Corner<T>, OutOfMemory>
     requires whole { IsWhole (as_problem [] stays.now) }
     ensures problem { IfOk result (λ c. c.problem ≡ as_problem [] stays.now) }
     ensures marks { IfOk result (λ c. c.marks ≡ []) }
@@ -53,7 +53,12 @@ fn with_stays(alloc: Global, stays: &[Stay]) -> Result<Corner, OutOfMemory>
 }
 
 // Adds rows to a corner without rows and marks, goes on to the best corner, and marks it.
-fn fill(alloc: Global, c: &mut Corner, rows: &[Row], budget: u64) -> Result<(), RunStop>
+fn fill<T: Tableau>(
+    alloc: Global,
+    c: &mut Corner<T>,
+    rows: &[Row],
+    budget: u64,
+) -> Result<(), RunStop>
     requires marked { 0 < length c.old.before }
     requires new { c.old.problem.rows ≡ [] }
     requires none { c.old.marks ≡ [] }
@@ -77,7 +82,12 @@ fn fill(alloc: Global, c: &mut Corner, rows: &[Row], budget: u64) -> Result<(), 
 ///
 /// The stops are those of `Engine::solve` if the rows are added to an engine that holds only these attributes
 /// at the targets.
-pub fn started(alloc: Global, stays: &[Stay], rows: &[Row], budget: u64) -> Result<Corner, RunStop>
+pub fn started<T: Tableau>(
+    alloc: Global,
+    stays: &[Stay],
+    rows: &[Row],
+    budget: u64,
+) -> Result<Corner<T>, RunStop>
     requires whole { IsWhole (as_problem rows.now stays.now) }
     ensures problem { IfOk result (λ c. c.problem ≡ as_problem rows.now stays.now) }
     ensures end { IfOk result HasEnded }
@@ -98,9 +108,9 @@ pub fn started(alloc: Global, stays: &[Stay], rows: &[Row], budget: u64) -> Resu
 }
 
 // Adds the next row, and goes on to the best corner.
-fn join_next(
+fn join_next<T: Tableau>(
     alloc: Global,
-    c: &mut Corner,
+    c: &mut Corner<T>,
     rows: &[Row],
     i: usize,
     budget: u64,
@@ -122,7 +132,12 @@ fn join_next(
 }
 
 // Adds rows to a corner without rows, one after another, and goes on to the best corner after each.
-fn join_each(alloc: Global, c: &mut Corner, rows: &[Row], budget: u64) -> Result<(), RunStop>
+fn join_each<T: Tableau>(
+    alloc: Global,
+    c: &mut Corner<T>,
+    rows: &[Row],
+    budget: u64,
+) -> Result<(), RunStop>
     requires marked { 0 < length c.old.before }
     requires none { c.old.problem.rows ≡ [] }
     requires first { c.old.marks ≡ [] }
@@ -142,7 +157,12 @@ fn join_each(alloc: Global, c: &mut Corner, rows: &[Row], budget: u64) -> Result
 }
 
 // Adds rows to a corner without rows and marks, one after another, goes on to the best corner, and marks it.
-fn fill_by_rows(alloc: Global, c: &mut Corner, rows: &[Row], budget: u64) -> Result<(), RunStop>
+fn fill_by_rows<T: Tableau>(
+    alloc: Global,
+    c: &mut Corner<T>,
+    rows: &[Row],
+    budget: u64,
+) -> Result<(), RunStop>
     requires marked { 0 < length c.old.before }
     requires new { c.old.problem.rows ≡ [] }
     requires none { c.old.marks ≡ [] }
@@ -164,12 +184,12 @@ fn fill_by_rows(alloc: Global, c: &mut Corner, rows: &[Row], budget: u64) -> Res
 ///
 /// A stop is that of one of the runs, and each run has the whole budget. If one stops, [`started`] takes
 /// another path, and may reach the end.
-pub fn started_by_rows(
+pub fn started_by_rows<T: Tableau>(
     alloc: Global,
     stays: &[Stay],
     rows: &[Row],
     budget: u64,
-) -> Result<Corner, RunStop>
+) -> Result<Corner<T>, RunStop>
     requires whole { IsWhole (as_problem rows.now stays.now) }
     ensures problem { IfOk result (λ c. c.problem ≡ as_problem rows.now stays.now) }
     ensures end { IfOk result HasEnded }

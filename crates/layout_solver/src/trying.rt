@@ -9,8 +9,8 @@ ghost use Rattle.problem_core.specs.Corners.{NoNegativeColumn, NoNegativeValue};
 ghost use Rattle.cert_core.specs.Stops.{IsStopOf};
 ghost use Rattle.cert_core.specs.declared.stops.RunStop.TheVariants.{OutOfMemory};
 ghost use Rattle.corner_lines.specs.Shifts.{with_constant};
-ghost use Rattle.corner.specs.Changes.{FromAdded};
-ghost use Rattle.corner.specs.Shifts.Shifting.{IsNear};
+ghost use Rattle.corner_view.specs.AddStops.{FromAdded};
+ghost use Rattle.corner_view.specs.Changes.{IsNear};
 ghost use Rattle.corner_ends.specs.Runs.{HasEnded};
 ghost use Rattle.dual_run.specs.Leaving.{AreLowLines};
 ghost use Rattle.layout_solver.specs.Layouts.{IsBestValue};
@@ -21,7 +21,7 @@ ghost use Rattle.layout_solver.specs.declared.trying.TrialStop.TheVariants as tr
 use crate::changing::extend;
 use crate::engine::Change;
 use cert_core::RunStop;
-use corner::Corner;
+use corner_view::{Corner, Tableau};
 use dual_run::{restore, shift};
 use frac_core::{Frac, Stop};
 use problem_core::{Quantity, Row, RowName, TableStop};
@@ -30,9 +30,9 @@ use thiserror::Error;
 
 /// Moves the stays to the present values, adds rows, and goes on to the best corner, and returns the
 /// attribute's value there.
-pub(crate) fn tried(
+pub(crate) fn tried<T: Tableau>(
     alloc: Global,
-    c: &mut Corner,
+    c: &mut Corner<T>,
     rows: &[Row],
     attr: u32,
     budget: u64,
@@ -82,9 +82,9 @@ fn change_stop(stop: TableStop) -> TrialStop
 
 // Goes on to the best corner, where the attribute has this value. `low` lists the lines whose values are
 // negative.
-fn restored(
+fn restored<T: Tableau>(
     alloc: Global,
-    c: &mut Corner,
+    c: &mut Corner<T>,
     low: Vec<RowName>,
     attr: u32,
     budget: u64,
@@ -103,9 +103,9 @@ fn restored(
 }
 
 // Gives a row another constant, and goes on to the best corner, and returns the attribute's value there.
-fn shifted(
+fn shifted<T: Tableau>(
     alloc: Global,
-    c: &mut Corner,
+    c: &mut Corner<T>,
     to: Change,
     attr: u32,
     budget: u64,
@@ -132,9 +132,9 @@ fn shifted(
 
 /// Moves the stays to the present values, adds rows, gives a row another constant, and goes on to the best
 /// corner, and returns the attribute's value there.
-pub(crate) fn pushed(
+pub(crate) fn pushed<T: Tableau>(
     alloc: Global,
-    c: &mut Corner,
+    c: &mut Corner<T>,
     rows: &[Row],
     to: Change,
     attr: u32,

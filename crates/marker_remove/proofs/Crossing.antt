@@ -20,7 +20,7 @@ use Rattle.problem_core.specs.Rays.{IsRay}
 use Rattle.problem_core.specs.Unfit.{IsUnfitWhat, over_mark}
 use Rattle.problem_core.proofs.Marks.{no-swaps as path_here}
 use Rattle.cert_core.specs.declared.stops.RunStop.TheVariants.{Unfit}
-use Rattle.corner_ends.specs.Views.{HasValueAt}
+use Rattle.corner_view.specs.Seen.{HasValueAt}
 use Rattle.corner_laws.specs.Examples.{over_stay}
 use Rattle.corner_laws.proofs.MarkWritings.Directions.{writing_moves}
 use Rattle.corner_laws.proofs.MarkWritings.Fits.{one_factor, whole_is_kept}

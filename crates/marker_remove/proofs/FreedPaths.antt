@@ -20,8 +20,8 @@ use Rattle.corner_laws.proofs.Exchanged.{exchanged_in}
 use Rattle.corner_laws.proofs.LinePlaces.{marks-apart as marks_apart}
 use Rattle.corner_laws.proofs.RunSteps.RunPaths.{contains_in}
 use Rattle.corner_laws.proofs.WrittenValues.{contains_each}
-use Rattle.corner_ends.specs.Views.{IsKeptCorner, in_order, is_mark}
-use Rattle.corner_ends.specs.Changes.{IsUnfitStop}
+use Rattle.corner_view.specs.Seen.{in_order, is_mark, IsKeptCorner}
+use Rattle.corner_view.specs.Stops.{IsUnfitStop}
 use Rattle.corner_lines.proofs.SameMarks.{same_corner}
 use Rattle.corner_ends.specs.Begins.{HasExchanged}
 use Rattle.corner_ends.proofs.MarkOrders.{unfit_same}
@@ -29,7 +29,7 @@ use Rattle.marker_remove.specs.Freed.{DoStand, HasMarkIn, IsFreedPath, IsStayMov
 use Rattle.marker_remove.proofs.ZeroSwaps.{no_value, same_up}
 use Rattle.frac_core.proofs.Bools.{bools-same as same_bool}
 use Rattle.corner_laws.proofs.Swaps.Pivots.{leave-gone as left-out}
-use Rattle.corner_table.proofs.Readings.KeptFacts.{is_in, in_is}
+use Rattle.corner_view.proofs.Facts.{in_is, is_in}
 use Rattle.problem_core.proofs.Marks.{entered-in as enter_in, same-back as same_back, kept-in as kept_in, later-in, in-list as in_list, no-swaps as path_here}
 
 -- ---- marks in order

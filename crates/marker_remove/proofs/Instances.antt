@@ -16,7 +16,7 @@ use Rattle.problem_core.specs.Unfit.{IsUnfitWhat}
 use Rattle.problem_core.specs.Changes.Begins.{ChangesNoValue}
 use Rattle.problem_core.specs.Changes.Paths.{IsPath}
 use Rattle.cert_core.specs.declared.stops.RunStop.TheVariants.{Unfit}
-use Rattle.corner_ends.specs.Views.{HasValueAt}
+use Rattle.corner_view.specs.Seen.{HasValueAt}
 use Rattle.corner_laws.specs.Examples.{over_row, over_stay, single}
 use Rattle.corner_laws.proofs.Instances.Examples.{bound-stands, bound_point as stayed_point, no_writing}
 use Rattle.corner_laws.proofs.MarkWritings.Fits.{one_factor, whole_is_kept, difference, difference-at, small-by, attr-holds as five-holds}

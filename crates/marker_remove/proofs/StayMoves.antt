@@ -24,10 +24,10 @@ use Rattle.corner_laws.proofs.LevelCosts.Gaps.{no_gap}
 use Rattle.corner_laws.proofs.WrittenValues.{contains_each}
 use Rattle.corner_laws.proofs.ZeroColumns.{here-in}
 use Rattle.corner_lines.proofs.Lines.MarkForms.{same-name}
-use Rattle.corner_ends.specs.Views.{AreMovers, CornerView, IsKeptCorner, IsNamed, IsOutside, MovesWith}
+use Rattle.corner_view.specs.Seen.{AreMovers, CornerView, IsKeptCorner, IsNamed, IsOutside, MovesWith}
 use Rattle.corner_ends.proofs.Marks.{contained, got_holds, mark_is}
 use Rattle.marker_remove.specs.Freed.{HasMarkIn, IsStayMover}
-use Rattle.corner_table.proofs.Basics.ListFacts.{stays_part}
+use Rattle.corner_view.proofs.Facts.{stays_part}
 use Rattle.problem_core.proofs.RowNames.{held-not-stay as held-stay}
 use Rattle.frac_core.proofs.Numbers.{signed-not-zero as not_zero}
 

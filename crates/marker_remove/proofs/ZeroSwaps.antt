@@ -24,9 +24,9 @@ use Rattle.corner_laws.proofs.RunSteps.RunPaths.{contains_in, same_stands}
 use Rattle.corner_laws.proofs.WrittenValues.{contains_each, nothing_outside}
 use Rattle.corner_laws.specs.Runs.{other_side}
 use Rattle.corner_lines.proofs.Lines.LineWritings.{Named, inside-named, named-mark, other-out}
-use Rattle.corner_ends.specs.Views.{HasValueAt}
+use Rattle.corner_view.specs.Seen.{HasValueAt}
 use Rattle.marker_remove.specs.Freed.{DoStand, HasSameValues}
-use Rattle.corner_table.proofs.Basics.ListFacts.{stays_part}
+use Rattle.corner_view.proofs.Facts.{stays_part}
 use Rattle.problem_core.proofs.RowNames.{held-not-stay as held-stay, stay-same}
 use Rattle.frac_core.proofs.Numbers.{zero-up as zero-fits}
 use Rattle.problem_core.proofs.Marks.{entered-in as enter_in, kept-in as kept_in, in-list as in_list}

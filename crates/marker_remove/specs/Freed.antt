@@ -14,7 +14,7 @@ use Rattle.problem_core.specs.Unfit.{IsUnfitWhat, over_mark}
 use Rattle.cert_core.specs.Paths.{Path}
 use Rattle.cert_core.specs.declared.stops.RunStop.{RunStop}
 use Rattle.cert_core.specs.declared.stops.RunStop.TheVariants.{Conflict, Unfit, Spent, OutOfMemory}
-use Rattle.corner_ends.specs.Views.{HasValueAt, MovesWith, in_order}
+use Rattle.corner_view.specs.Seen.{HasValueAt, in_order, MovesWith}
 
 -- a mark of the row is inside
 abbrev pub HasMarkIn : List Mark → ℕ → Type 0

@@ -3,8 +3,8 @@ ghost use Rattle.std.specs.Prelude.{◌≡◌, ◌<◌, [], length, true, false,
 ghost use Rattle.std.specs.Prelude.{IfSome, IfNone};
 ghost use Rattle.problem_core.specs.Corners.{IsExchange, NoNegativeValue, exchanged};
 ghost use Rattle.frac_core.specs.declared.memory.Stop.TheVariants.{Refused};
-ghost use Rattle.corner_ends.specs.Changes.{IsUnfitStop};
-ghost use Rattle.corner_ends.specs.Views.{in_order};
+ghost use Rattle.corner_view.specs.Stops.{IsUnfitStop};
+ghost use Rattle.corner_view.specs.Seen.{in_order};
 ghost use Rattle.problem_core.specs.declared.parts.RowName.TheVariants.{Held};
 ghost use Rattle.problem_core.specs.Unfit.{over_mark};
 ghost use Rattle.marker_remove.specs.Freed.{DoStand, HasMarkIn, HasSameValues, IsFreeStop, IsFreed};
@@ -12,7 +12,8 @@ ghost use Rattle.marker_remove.specs.Freed.{IsStayMover};
 
 use crate::leaving::leaving;
 use cert_core::{Path, RunStop, Swap, UnfitPath};
-use corner_ends::{Corner, first_marks};
+use corner_ends::first_marks;
+use corner_view::{Corner, Tableau};
 use frac_core::{OutOfMemory, Stop};
 use problem_core::{Mark, Quantity, RowName, Side};
 use std::alloc::Global;
@@ -28,7 +29,7 @@ fn mark_of(id: u32, side: Side) -> Mark
 }
 
 /// Whether a mark of the row is inside.
-pub fn is_free(c: &Corner, id: u32) -> bool
+pub fn is_free<T: Tableau>(c: &Corner<T>, id: u32) -> bool
     requires { Any (λ r. r.id ≡ id) c.now.problem.rows }
     ensures yes { result ≡ true → HasMarkIn c.now.marks id }
     ensures no { result ≡ false → HasMarkIn c.now.marks id → ⊥ }
@@ -37,7 +38,7 @@ pub fn is_free(c: &Corner, id: u32) -> bool
 }
 
 // The path of no exchange at the corner after this one.
-fn freed_path(alloc: Global, c: &Corner, swap: Swap) -> Result<Path, OutOfMemory>
+fn freed_path<T: Tableau>(alloc: Global, c: &Corner<T>, swap: Swap) -> Result<Path, OutOfMemory>
     requires { IsExchange c.now.problem c.now.marks swap }
     ensures { IfOk result (λ path. path ≡ record {
       dual = false;
@@ -54,7 +55,13 @@ fn freed_path(alloc: Global, c: &Corner, swap: Swap) -> Result<Path, OutOfMemory
 }
 
 // The stop where a quantity does not fit at the corner after the exchange.
-fn unfit(alloc: Global, c: &Corner, id: u32, swap: Swap, quantity: Quantity) -> RunStop
+fn unfit<T: Tableau>(
+    alloc: Global,
+    c: &Corner<T>,
+    id: u32,
+    swap: Swap,
+    quantity: Quantity,
+) -> RunStop
     requires fresh { HasMarkIn c.now.marks id → ⊥ }
     requires enter { swap.enter ≡ over_mark id }
     requires stay { IsStayMover c.now.problem c.now.marks swap.enter swap.leave }
@@ -76,7 +83,11 @@ fn unfit(alloc: Global, c: &Corner, id: u32, swap: Swap, quantity: Quantity) -> 
 ///
 /// `Unfit`: a quantity does not fit at the corner after the exchange, which is the path's. After an error
 /// only the earlier corners are said to be as before.
-pub fn free_row(alloc: Global, c: &mut Corner, id: u32) -> Result<Option<Swap>, RunStop>
+pub fn free_row<T: Tableau>(
+    alloc: Global,
+    c: &mut Corner<T>,
+    id: u32,
+) -> Result<Option<Swap>, RunStop>
     requires marked { 0 < length c.old.before }
     requires held { Any (λ r. r.id ≡ id) c.old.problem.rows }
     requires values { NoNegativeValue c.old.problem c.old.marks }

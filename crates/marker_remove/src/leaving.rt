@@ -3,10 +3,10 @@ ghost use Rattle.std.specs.Prelude.{◌≡◌, ℕ, IfSome, IfNone};
 ghost use Rattle.problem_core.specs.declared.parts.Mark as mark_type;
 ghost use Rattle.problem_core.specs.declared.parts.RowName.TheVariants.{Stay as StayOf};
 ghost use Rattle.problem_core.specs.declared.stops.What.TheVariants.{Mark as MarkOf};
-ghost use Rattle.corner_ends.specs.Views.{IsOutside};
+ghost use Rattle.corner_view.specs.Seen.{IsOutside};
 ghost use Rattle.marker_remove.specs.Freed.{IsStayMover};
 
-use corner_ends::Corner;
+use corner_view::{Corner, Tableau};
 use problem_core::{Mark, RowName, What};
 
 // The mark of a stay.
@@ -25,7 +25,7 @@ fn stay_mark(what: What) -> Option<Mark>
 }
 
 /// An inside mark of a stay that moves where the outside mark grows.
-pub(crate) fn leaving(c: &Corner, enter: Mark) -> Mark
+pub(crate) fn leaving<T: Tableau>(c: &Corner<T>, enter: Mark) -> Mark
     requires outside { IsOutside c.now.problem c.now.marks enter }
     requires some { (m : mark_type.Mark) × IsStayMover c.now.problem c.now.marks enter m }
     ensures { IsStayMover c.now.problem c.now.marks enter result }

@@ -22,7 +22,7 @@ use Rattle.corner_laws.proofs.MarkWritings.Equations.{writings_are_equal}
 use Rattle.corner_laws.proofs.RunSteps.FirstToLeave.{none_inside}
 use Rattle.corner_laws.proofs.Swaps.PrimalChoice.{interchange}
 use Rattle.corner_laws.proofs.WrittenValues.{value_there}
-use Rattle.corner_ends.specs.Views.{HasValueAt, IsKeptCorner, IsScaleOf, MovesWith}
+use Rattle.corner_view.specs.Seen.{HasValueAt, IsKeptCorner, IsScaleOf, MovesWith}
 use Rattle.corner_ends.proofs.ReadNumbers.{scale_is}
 use Rattle.primal_run.specs.declared.ties.Ratio.{Ratio}
 use Rattle.primal_run.specs.Leaving.{FallsBefore, IsEarlier, IsFirstOf, IsRatioAt, NeverFalls}

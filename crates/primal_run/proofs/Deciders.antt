@@ -23,9 +23,9 @@ use Rattle.corner_laws.specs.Runs.{BreaksTie, Writes, Writing, count_at}
 use Rattle.corner_laws.proofs.RunSteps.RunPaths.{contains_in}
 use Rattle.corner_laws.proofs.MarkWritings.Equations.{writings_are_equal}
 use Rattle.corner_laws.proofs.MarkWritings.LowestForms.{column_has_writing}
-use Rattle.corner_table.proofs.Readings.KeptFacts.{in_is, is_in}
-use Rattle.corner_ends.specs.Views.{CornerView, IsKeptCorner}
-use Rattle.corner_writings.specs.Entries.{AreBothOutside, AreEntries}
+use Rattle.corner_view.proofs.Facts.{in_is, is_in}
+use Rattle.corner_view.specs.Seen.{CornerView, IsKeptCorner}
+use Rattle.corner_view.specs.Entries.{AreBothOutside, AreEntries}
 use Rattle.corner_ends.specs.Trails.{IsTrailOf, Trail, in_tie_order}
 use Rattle.corner_ends.proofs.TieOrders.{all_from, tied_same}
 use Rattle.primal_run.proofs.TieKeys.{AreTieRising, IsTieAbove, ties_rising}

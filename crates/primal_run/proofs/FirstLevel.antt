@@ -16,8 +16,8 @@ use Rattle.problem_core.proofs.Forms.{each-impl}
 use Rattle.problem_core.proofs.Wholes.{whole-IsProblem}
 use Rattle.corner_laws.proofs.RunSteps.ColumnSigns.{negative_by_reduced, pick, mark_line, required_by_reduced}
 use Rattle.corner_laws.specs.RunLaws.{AreReduced}
-use Rattle.corner_ends.specs.Views.{AreCandidates, IsKeptCorner, IsLevelOf, IsMarkOf, IsNamed, IsOutside, IsReducedAt}
-use Rattle.corner_table.proofs.Readings.ReadFacts.{mark_named}
+use Rattle.corner_view.specs.Seen.{AreCandidates, IsKeptCorner, IsLevelOf, IsMarkOf, IsNamed, IsOutside, IsReducedAt}
+use Rattle.corner_view.proofs.Facts.{mark_named, up_or_low}
 use Rattle.primal_run.specs.Entering.{HasNoRequired, IsChoice, IsRequired, MayEnter}
 use Rattle.primal_run.specs.declared.entering.Choice.{Choice}
 use Rattle.problem_core.specs.declared.parts.Level.{Level}
@@ -25,7 +25,6 @@ use Rattle.corner_ends.specs.Columns.{IsNegative, Reduced}
 use Rattle.corner_ends.proofs.Fronts.{any_there, each_mark, inside_zero, none_negative, reduced_at_all, reduced_same, some_line}
 use Rattle.corner_ends.proofs.Marks.{contained}
 use Rattle.corner_ends.proofs.Signs.{columns_alike, mark_column, not_both_signs}
-use Rattle.corner_writings.proofs.Readings.LowLines.{up_or_low}
 use Rattle.corner_lines.proofs.ColumnsBelow.{low_from}
 use Rattle.frac_core.proofs.Numbers.{one-times as times-one, none-below as nothing-before}
 

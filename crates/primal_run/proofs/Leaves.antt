@@ -15,12 +15,12 @@ use Rattle.corner_laws.specs.Runs.{FallsFirst, IsFirstToLeave, Writes, Writing}
 use Rattle.corner_laws.proofs.RunSteps.ColumnSigns.{some_mark_falls}
 use Rattle.corner_laws.proofs.MarkWritings.Directions.{writing_moves}
 use Rattle.corner_laws.proofs.MarkWritings.LowestForms.{column_has_writing}
-use Rattle.corner_ends.specs.Views.{AreMovers, CornerView, IsKeptCorner, IsOutside, MovesWith}
+use Rattle.corner_view.specs.Seen.{AreMovers, CornerView, IsKeptCorner, IsOutside, MovesWith}
 use Rattle.primal_run.specs.declared.ties.Ratio.{Ratio}
 use Rattle.primal_run.specs.Entering.{MayEnter}
 use Rattle.primal_run.specs.Leaving.{IsFirstOf, IsRatioAt, NeverFalls}
 use Rattle.corner_ends.proofs.Marks.{contained, in_mark}
-use Rattle.corner_writings.proofs.Readings.LowLines.{up_or_low}
+use Rattle.corner_view.proofs.Facts.{up_or_low}
 use Rattle.frac_core.proofs.Numbers.{low-not-zero as low-some, low-back as low-left, neg-times}
 use Rattle.problem_core.proofs.Marks.{in-list as in_list}
 

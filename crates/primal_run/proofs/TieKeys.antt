@@ -22,7 +22,7 @@ use Rattle.problem_core.proofs.RowNames.{held-not-stay, stay-same}
 use Rattle.corner_laws.proofs.Counting.{head_pairs}
 use Rattle.corner_laws.proofs.LinePlaces.{IsSmallLine, lines_small}
 use Rattle.corner_laws.proofs.RunSteps.ColumnSigns.{pick}
-use Rattle.corner_ends.specs.Views.{IsNamed, IsStronger, in_order, is_mark}
+use Rattle.corner_view.specs.Seen.{in_order, is_mark, IsNamed, IsStronger}
 use Rattle.corner_ends.specs.Trails.{in_tie_order, put_tied}
 use Rattle.corner_ends.proofs.TieOrders.{each_more, each_tied}
 use Rattle.primal_run.specs.Deciding.{line_key, mark_key, stays_before, tie_key, turned}

@@ -12,8 +12,8 @@ use Rattle.problem_core.specs.declared.parts.RowName.TheVariants.{Held, Stay as 
 use Rattle.problem_core.specs.declared.parts.Stay.{Stay}
 use Rattle.problem_core.specs.Layout.{Problem}
 use Rattle.problem_core.specs.Corners.{IsIn, place, side_number}
-use Rattle.corner_ends.specs.Views.{CornerView, IsMarkOf, is_mark}
-use Rattle.corner_writings.specs.Entries.{HasEntry}
+use Rattle.corner_view.specs.Seen.{CornerView, is_mark, IsMarkOf}
+use Rattle.corner_view.specs.Entries.{HasEntry}
 use Rattle.corner_ends.specs.Trails.{IsTrailOf, Trail, in_tie_order}
 use Rattle.primal_run.specs.declared.deciding.Decider.{Decider}
 use Rattle.primal_run.specs.declared.deciding.Tie.{Tie}

@@ -8,7 +8,8 @@ use Rattle.problem_core.specs.declared.parts.Level.TheVariants.{Priority}
 use Rattle.problem_core.specs.Layout.{Problem}
 use Rattle.problem_core.specs.Corners.{HasNegativeColumn}
 use Rattle.problem_core.specs.Changes.Paths.{IsEndOf}
-use Rattle.corner_ends.specs.Views.{IsFrontOf, IsOutside, IsReducedAt}
+use Rattle.corner_view.specs.Fronts.{IsFrontOf}
+use Rattle.corner_view.specs.Seen.{IsOutside, IsReducedAt}
 use Rattle.corner_ends.specs.Columns.{IsNegative}
 use Rattle.primal_run.specs.declared.entering.Choice.{Choice}
 

@@ -7,13 +7,14 @@ ghost use Rattle.problem_core.specs.Corners as corners;
 ghost use Rattle.problem_core.specs.Corners.{IsIn};
 ghost use Rattle.problem_core.specs.declared.parts.Mark as mark_type;
 ghost use Rattle.problem_core.specs.declared.parts.Side as side_type;
-ghost use Rattle.corner_ends.specs.Views.{IsMarkOf, IsNamed};
+ghost use Rattle.corner_view.specs.Seen.{IsMarkOf, IsNamed};
 ghost use Rattle.primal_run.specs.Deciding.{FromTies, HasBegun, IsDecider, IsLate, IsNoLater, IsOfRow};
 ghost use Rattle.primal_run.specs.Deciding.{IsSeen, IsTie, line_key, mark_key, tie_key};
 ghost use Rattle.primal_run.specs.Leaving.{IsEarlier, IsRatioAt, WinsTie};
 
 use crate::ties::{Ratio, count_order};
-use corner_ends::{Corner, Trail};
+use corner_ends::Trail;
+use corner_view::{Corner, Tableau};
 use frac_core::cmp_wide;
 use problem_core::{Level, Mark, RowName, Side};
 use std::cmp::Ordering;
@@ -34,7 +35,7 @@ pub(crate) struct Decider {
 }
 
 // Whether the first line stands before the other one: by row number, with the stays last, strongest first.
-fn is_line_before(c: &Corner, f: RowName, g: RowName) -> bool
+fn is_line_before<T: Tableau>(c: &Corner<T>, f: RowName, g: RowName) -> bool
     requires f { IsNamed c.now.problem f }
     requires g { IsNamed c.now.problem g }
     ensures yes { result ≡ true → line_key c.now.problem.stays f < line_key c.now.problem.stays g }
@@ -50,7 +51,7 @@ fn is_line_before(c: &Corner, f: RowName, g: RowName) -> bool
 }
 
 // Whether the first mark stands before the other one: by their lines, and of one line the under mark.
-fn is_before(c: &Corner, f: Mark, g: Mark) -> bool
+fn is_before<T: Tableau>(c: &Corner<T>, f: Mark, g: Mark) -> bool
     requires f { IsMarkOf c.now.problem f }
     requires g { IsMarkOf c.now.problem g }
     ensures yes { result ≡ true → mark_key c.now.problem.stays f < mark_key c.now.problem.stays g }
@@ -70,7 +71,7 @@ fn is_before(c: &Corner, f: Mark, g: Mark) -> bool
 
 // Whether the first mark breaks ties before the other one: the marks of rows do as they stand, and behind
 // them those of stays, last first.
-fn decides_before(c: &Corner, f: Mark, g: Mark) -> bool
+fn decides_before<T: Tableau>(c: &Corner<T>, f: Mark, g: Mark) -> bool
     requires f { IsMarkOf c.now.problem f }
     requires g { IsMarkOf c.now.problem g }
     ensures yes { result ≡ true → tie_key c.now.problem.stays f < tie_key c.now.problem.stays g }
@@ -86,7 +87,7 @@ fn decides_before(c: &Corner, f: Mark, g: Mark) -> bool
 }
 
 // Whether what is found decides no later than the mark, so that nothing is to be asked about it.
-fn is_late(c: &Corner, found: Option<Decider>, f: Mark) -> bool
+fn is_late<T: Tableau>(c: &Corner<T>, found: Option<Decider>, f: Mark) -> bool
     requires f { IsMarkOf c.now.problem f }
     requires found { IfSome found (λ d. IsMarkOf c.now.problem d.mark) }
     ensures yes { result ≡ true → IsLate c.now.problem found f }
@@ -111,7 +112,13 @@ fn is_equal(order: Ordering) -> bool
 }
 
 // What decides, where one mark more is looked at.
-fn see_mark(c: &Corner, trail: &Trail, tie: Tie, f: Mark, found: Option<Decider>) -> Option<Decider>
+fn see_mark<T: Tableau>(
+    c: &Corner<T>,
+    trail: &Trail,
+    tie: Tie,
+    f: Mark,
+    found: Option<Decider>,
+) -> Option<Decider>
     requires tie { IsTie c.now.marks tie }
     requires f { IsMarkOf c.now.problem f }
     requires found { IfSome found (IsDecider c.now.problem c.now.marks tie) }
@@ -135,8 +142,8 @@ fn see_mark(c: &Corner, trail: &Trail, tie: Tie, f: Mark, found: Option<Decider>
 }
 
 // What decides, where the marks of one line more are looked at.
-fn see_line(
-    c: &Corner,
+fn see_line<T: Tableau>(
+    c: &Corner<T>,
     trail: &Trail,
     tie: Tie,
     row: RowName,
@@ -166,7 +173,13 @@ fn see_line(
 
 // What decides, where the marks of an inside mark's line and of the lines in its writing are looked at. Those
 // lines have no mark inside now, and none in the first corner as long as nothing is exchanged.
-fn see_row(c: &Corner, trail: &Trail, tie: Tie, m: Mark, found: Option<Decider>) -> Option<Decider>
+fn see_row<T: Tableau>(
+    c: &Corner<T>,
+    trail: &Trail,
+    tie: Tie,
+    m: Mark,
+    found: Option<Decider>,
+) -> Option<Decider>
     requires tie { IsTie c.now.marks tie }
     requires inside { IsIn (corners.place m) c.now.marks }
     requires found { IfSome found (IsDecider c.now.problem c.now.marks tie) }
@@ -191,7 +204,7 @@ fn see_row(c: &Corner, trail: &Trail, tie: Tie, m: Mark, found: Option<Decider>)
 
 // The mark of the run's first corner that decides: the first in the order of ties at which the two count
 // differently. Where no number of a mark stands in either writing, both count 0.
-fn deciding(c: &Corner, trail: &Trail, tie: Tie) -> Option<Decider>
+fn deciding<T: Tableau>(c: &Corner<T>, trail: &Trail, tie: Tie) -> Option<Decider>
     requires tie { IsTie c.now.marks tie }
     ensures decider { IfSome result (IsDecider c.now.problem c.now.marks tie) }
     ensures begun { HasBegun c.now trail.now result }
@@ -215,7 +228,7 @@ fn is_less(order: Ordering) -> bool
 
 // Whether the first of two marks that come to 0 together leaves, by what they count at the marks of the
 // run's first corner.
-fn breaks_tie(c: &Corner, trail: &Trail, a: Ratio, b: Ratio, enter: Mark) -> bool
+fn breaks_tie<T: Tableau>(c: &Corner<T>, trail: &Trail, a: Ratio, b: Ratio, enter: Mark) -> bool
     requires a { IsRatioAt c.now.problem c.now.marks (corners.place enter) a }
     requires b { IsRatioAt c.now.problem c.now.marks (corners.place enter) b }
     ensures yes { result ≡ true → FromTies c.now trail.now (λ ties.
@@ -232,7 +245,13 @@ fn breaks_tie(c: &Corner, trail: &Trail, a: Ratio, b: Ratio, enter: Mark) -> boo
 }
 
 /// The ratio of the mark that leaves, of two: the smaller one, and of equal ones that which breaks the tie.
-pub(crate) fn earlier(c: &Corner, trail: &Trail, a: Ratio, b: Ratio, enter: Mark) -> Ratio
+pub(crate) fn earlier<T: Tableau>(
+    c: &Corner<T>,
+    trail: &Trail,
+    a: Ratio,
+    b: Ratio,
+    enter: Mark,
+) -> Ratio
     requires a { IsRatioAt c.now.problem c.now.marks (corners.place enter) a }
     requires b { IsRatioAt c.now.problem c.now.marks (corners.place enter) b }
     ensures ratio { IsRatioAt c.now.problem c.now.marks (corners.place enter) result }

@@ -2,12 +2,13 @@
 ghost use Rattle.std.specs.Prelude.{◌≡◌, ◌⊎◌, ◌<◌, ◌-◌, ◌<ℤ◌, [], pos, length, true};
 ghost use Rattle.std.specs.Prelude.{false, IfSome, IfNone, Some, None};
 ghost use Rattle.problem_core.specs.Corners.{HasNegativeColumn};
-ghost use Rattle.corner_ends.specs.Views.{IsFoundOf, IsFrontOf, IsLevelOf, IsMarkOf, IsNamed};
-ghost use Rattle.corner_ends.specs.Changes.{HasNoNegative};
+ghost use Rattle.corner_view.specs.Fronts.{IsFoundOf, IsFrontOf};
+ghost use Rattle.corner_view.specs.Seen.{HasNoNegative, IsLevelOf, IsMarkOf, IsNamed};
 ghost use Rattle.corner_ends.specs.Columns.{IsNegative};
 ghost use Rattle.primal_run.specs.Entering.{IsChoice};
 
-use corner_ends::{Corner, Front, is_below};
+use corner_ends::is_below;
+use corner_view::{Corner, Front, Tableau};
 use problem_core::{Level, Mark, RowName, Side};
 
 /// An outside mark, and the level at which its column is negative, with its reduced cost there.
@@ -18,7 +19,7 @@ pub(crate) struct Choice {
 }
 
 // The mark's front, where its column is negative.
-fn negative_front(c: &Corner, mark: Mark, found: Option<Front>) -> Option<Front>
+fn negative_front<T: Tableau>(c: &Corner<T>, mark: Mark, found: Option<Front>) -> Option<Front>
     requires mark { IsMarkOf c.now.problem mark }
     requires found { IsFoundOf c.now.problem c.now.marks mark found }
     ensures some { IfSome result (λ _. IsNegative c.now.problem c.now.marks mark) }
@@ -43,7 +44,7 @@ pub(crate) fn mark_at(row: RowName, side: Side) -> Mark
 }
 
 // The mark of the line whose column is negative.
-fn negative_of(c: &Corner, row: RowName) -> Option<Choice>
+fn negative_of<T: Tableau>(c: &Corner<T>, row: RowName) -> Option<Choice>
     requires { IsNamed c.now.problem row }
     ensures some { IfSome result (IsChoice c.now.problem c.now.marks) }
     ensures none { IfNone result (HasNoNegative c.now.problem c.now.marks row) }
@@ -60,7 +61,7 @@ fn negative_of(c: &Corner, row: RowName) -> Option<Choice>
 }
 
 // The rank of a row.
-fn rank_of(c: &Corner, id: u32) -> u16 {
+fn rank_of<T: Tableau>(c: &Corner<T>, id: u32) -> u16 {
     let rows = c.rows();
     let at = rows.partition_point(|row| row.id() < id);
     match rows.get(at) {
@@ -70,13 +71,13 @@ fn rank_of(c: &Corner, id: u32) -> u16 {
 }
 
 // Whether the first row is weaker: of the lower rank, and of equal ones the later one.
-fn is_lower(c: &Corner, a: u32, b: u32) -> bool {
+fn is_lower<T: Tableau>(c: &Corner<T>, a: u32, b: u32) -> bool {
     let (first, second) = (rank_of(c, a), rank_of(c, b));
     first < second || first == second && a > b
 }
 
 /// Whether the first line is weaker.
-pub(crate) fn is_weaker(c: &Corner, a: RowName, b: RowName) -> bool
+pub(crate) fn is_weaker<T: Tableau>(c: &Corner<T>, a: RowName, b: RowName) -> bool
     requires a { IsNamed c.now.problem a }
     requires b { IsNamed c.now.problem b }
 {
@@ -89,7 +90,7 @@ pub(crate) fn is_weaker(c: &Corner, a: RowName, b: RowName) -> bool
 }
 
 // Whether the first level is stronger. Only of two stays are the places looked up.
-fn is_stronger(c: &Corner, a: Level, b: Level) -> bool
+fn is_stronger<T: Tableau>(c: &Corner<T>, a: Level, b: Level) -> bool
     requires a { IsLevelOf c.now.problem a }
     requires b { IsLevelOf c.now.problem b }
 {
@@ -103,7 +104,7 @@ fn is_stronger(c: &Corner, a: Level, b: Level) -> bool
 
 // Whether the first one enters before the other: the stronger level first, there the lower reduced cost, and
 // of equal ones the weaker line.
-fn enters_before(c: &Corner, a: Choice, b: Choice) -> bool
+fn enters_before<T: Tableau>(c: &Corner<T>, a: Choice, b: Choice) -> bool
     requires a { IsChoice c.now.problem c.now.marks a }
     requires b { IsChoice c.now.problem c.now.marks b }
 {
@@ -116,7 +117,7 @@ fn enters_before(c: &Corner, a: Choice, b: Choice) -> bool
 }
 
 // The one of the two that enters before the other.
-fn better(c: &Corner, choice: Choice, found: Option<Choice>) -> Choice
+fn better<T: Tableau>(c: &Corner<T>, choice: Choice, found: Option<Choice>) -> Choice
     requires choice { IsChoice c.now.problem c.now.marks choice }
     requires found { IfSome found (IsChoice c.now.problem c.now.marks) }
     ensures { (result ≡ choice) ⊎ (found ≡ Some result) }
@@ -141,7 +142,7 @@ struct Seen {
 }
 
 // Looks at a candidate, and unlists it where neither of its marks has a negative column.
-fn see(c: &mut Corner, found: Option<Choice>, i: usize) -> Seen
+fn see<T: Tableau>(c: &mut Corner<T>, found: Option<Choice>, i: usize) -> Seen
     requires within { i < length c.old.candidates }
     requires found { IfSome found (IsChoice c.old.problem c.old.marks) }
     ensures problem { c.new.problem ≡ c.old.problem }
@@ -168,7 +169,7 @@ fn see(c: &mut Corner, found: Option<Choice>, i: usize) -> Seen
 
 /// A mark with a negative column, if one is listed: of those that are listed the one that enters before all
 /// others. No clause says which of several. Lines without one are unlisted.
-pub(crate) fn pick(c: &mut Corner) -> Option<Choice>
+pub(crate) fn pick<T: Tableau>(c: &mut Corner<T>) -> Option<Choice>
     ensures problem { c.new.problem ≡ c.old.problem }
     ensures marks { c.new.marks ≡ c.old.marks }
     ensures before { c.new.before ≡ c.old.before }

@@ -5,7 +5,7 @@ ghost use Rattle.problem_core.specs.Corners.{IsIn};
 ghost use Rattle.problem_core.specs.declared.parts.Mark.{Mark as MarkOfLine};
 ghost use Rattle.problem_core.specs.declared.stops.What.TheVariants.{Mark as MarkOf};
 ghost use Rattle.corner_laws.specs.Runs.{IsFirstToLeave};
-ghost use Rattle.corner_ends.specs.Views.{IsOutside, MovesWith};
+ghost use Rattle.corner_view.specs.Seen.{IsOutside, MovesWith};
 ghost use Rattle.corner_ends.specs.Trails.{IsTrailOf};
 ghost use Rattle.primal_run.specs.Deciding.{FromTies};
 ghost use Rattle.primal_run.specs.Entering.{MayEnter};
@@ -13,12 +13,13 @@ ghost use Rattle.primal_run.specs.Leaving.{IsNextFirst, IsRatioOrNone};
 
 use crate::deciding::earlier;
 use crate::ties::{Ratio, ratio_of};
-use corner_ends::{Corner, Trail};
+use corner_ends::Trail;
+use corner_view::{Corner, Tableau};
 use problem_core::{Mark, What};
 
 // The ratio of what leaves, where one more is looked at that moves with the entering mark.
-fn next_first(
-    c: &Corner,
+fn next_first<T: Tableau>(
+    c: &Corner<T>,
     trail: &Trail,
     found: Option<Ratio>,
     what: What,
@@ -45,7 +46,7 @@ fn next_first(
 }
 
 /// The inside mark that comes to 0 first where a mark enters.
-pub(crate) fn leaving(c: &Corner, trail: &Trail, enter: Mark) -> Mark
+pub(crate) fn leaving<T: Tableau>(c: &Corner<T>, trail: &Trail, enter: Mark) -> Mark
     requires trail { (first : List MarkOfLine) × IsTrailOf false c.now.problem first trail.now c.now.marks }
     requires enter { MayEnter c.now.problem c.now.marks enter }
     ensures inside { IsIn (corners.place result) c.now.marks }

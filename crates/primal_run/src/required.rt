@@ -6,11 +6,12 @@ ghost use Rattle.problem_core.specs.declared.limits.TheConstants.{REQUIRED};
 ghost use Rattle.problem_core.specs.declared.parts.Level.TheVariants.{Priority};
 ghost use Rattle.problem_core.specs.declared.parts.RowName.{RowName as RowNameOf};
 ghost use Rattle.problem_core.specs.Changes.Paths.{NoNegativeRequired};
-ghost use Rattle.corner_ends.specs.Views.{IsMarkOf, IsNamed, IsReducedAt};
+ghost use Rattle.corner_view.specs.Seen.{IsMarkOf, IsNamed, IsReducedAt};
 ghost use Rattle.primal_run.specs.Entering.{HasNoRequired, IsChoice, IsRequired};
 
 use crate::entering::{Choice, is_weaker, mark_at};
-use corner_ends::{Corner, is_below, required_level};
+use corner_ends::{is_below, required_level};
+use corner_view::{Corner, Tableau};
 use problem_core::{Level, Mark, REQUIRED, RowName, Side};
 
 // Whether it is the level of the required rows.
@@ -24,7 +25,7 @@ fn is_required_level(level: Level) -> bool
 }
 
 /// The mark of a choice, where its column is negative at the level of the required rows.
-pub(crate) fn required_of(c: &Corner, found: Option<Choice>) -> Option<Mark>
+pub(crate) fn required_of<T: Tableau>(c: &Corner<T>, found: Option<Choice>) -> Option<Mark>
     requires { IfSome found (IsChoice c.now.problem c.now.marks) }
     ensures { IfSome result (IsRequired c.now.problem c.now.marks) }
 {
@@ -45,7 +46,7 @@ struct Lower {
 }
 
 // The mark's reduced cost at the level of the required rows.
-fn reduced_of(c: &Corner, mark: Mark) -> i64
+fn reduced_of<T: Tableau>(c: &Corner<T>, mark: Mark) -> i64
     requires { IsMarkOf c.now.problem mark }
     ensures { IsReducedAt c.now.problem c.now.marks (Priority REQUIRED) mark result }
 {
@@ -53,7 +54,7 @@ fn reduced_of(c: &Corner, mark: Mark) -> i64
 }
 
 // The mark with its reduced cost, where this is below 0.
-fn lower_at(c: &Corner, mark: Mark) -> Option<Lower>
+fn lower_at<T: Tableau>(c: &Corner<T>, mark: Mark) -> Option<Lower>
     requires { IsMarkOf c.now.problem mark }
     ensures some { IfSome result (λ f. IsRequired c.now.problem c.now.marks f.mark) }
     ensures none { IfNone result ((z : ℤ) × IsReducedAt c.now.problem c.now.marks (Priority REQUIRED) mark z
@@ -69,7 +70,7 @@ fn lower_at(c: &Corner, mark: Mark) -> Option<Lower>
 }
 
 // The mark of the line whose reduced cost is below 0.
-fn lower_of(c: &Corner, row: RowName) -> Option<Lower>
+fn lower_of<T: Tableau>(c: &Corner<T>, row: RowName) -> Option<Lower>
     requires { IsNamed c.now.problem row }
     ensures some { IfSome result (λ f. IsRequired c.now.problem c.now.marks f.mark) }
     ensures none { IfNone result (HasNoRequired c.now.problem c.now.marks row) }
@@ -81,7 +82,7 @@ fn lower_of(c: &Corner, row: RowName) -> Option<Lower>
 }
 
 // The lower one, and of equal ones that of the weaker line.
-fn lowest(c: &Corner, lower: Lower, found: Option<Lower>) -> Lower
+fn lowest<T: Tableau>(c: &Corner<T>, lower: Lower, found: Option<Lower>) -> Lower
     requires lower { IsRequired c.now.problem c.now.marks lower.mark }
     requires found { IfSome found (λ f. IsRequired c.now.problem c.now.marks f.mark) }
     ensures { (result ≡ lower) ⊎ (found ≡ Some result) }
@@ -101,7 +102,7 @@ fn lowest(c: &Corner, lower: Lower, found: Option<Lower>) -> Lower
 }
 
 // What is found where one more candidate is looked at.
-fn next_lowest(c: &Corner, found: Option<Lower>, i: usize) -> Option<Lower>
+fn next_lowest<T: Tableau>(c: &Corner<T>, found: Option<Lower>, i: usize) -> Option<Lower>
     requires within { i < length c.now.candidates }
     requires found { IfSome found (λ f. IsRequired c.now.problem c.now.marks f.mark) }
     ensures some { IfSome result (λ f. IsRequired c.now.problem c.now.marks f.mark) }
@@ -118,7 +119,7 @@ fn next_lowest(c: &Corner, found: Option<Lower>, i: usize) -> Option<Lower>
 
 /// A mark with a reduced cost below 0 at the level of the required rows, if there is one: that with the
 /// lowest. No clause says which of several.
-pub(crate) fn required_pick(c: &Corner) -> Option<Mark>
+pub(crate) fn required_pick<T: Tableau>(c: &Corner<T>) -> Option<Mark>
     ensures some { IfSome result (IsRequired c.now.problem c.now.marks) }
     ensures none { IfNone result (NoNegativeRequired c.now.problem c.now.marks) }
 {

@@ -6,12 +6,17 @@ ghost use Rattle.primal_run.specs.Entering.{MayEnter};
 
 use crate::leaving::leaving;
 use cert_core::{RunStop, Swap};
-use corner_ends::{Corner, Trail};
+use corner_ends::Trail;
+use corner_view::{Corner, Tableau};
 use frac_core::Stop;
 use problem_core::Mark;
 
 /// Exchanges a mark that may enter for the one that comes to 0 first.
-pub(crate) fn exchange(trail: &mut Trail, c: &mut Corner, enter: Mark) -> Result<(), RunStop>
+pub(crate) fn exchange<T: Tableau>(
+    trail: &mut Trail,
+    c: &mut Corner<T>,
+    enter: Mark,
+) -> Result<(), RunStop>
     requires marked { 0 < length c.old.before }
     requires trail { (first : List MarkOfLine) × IsTrailOf false c.old.problem first trail.old c.old.marks }
     requires enter { MayEnter c.old.problem c.old.marks enter }

@@ -13,13 +13,18 @@ use crate::entering::{Choice, pick};
 use crate::required::{required_of, required_pick};
 use crate::runs::exchange;
 use cert_core::RunStop;
-use corner_ends::{Corner, Trail, conflict_stop, is_costly};
+use corner_ends::{Trail, conflict_stop, is_costly};
+use corner_view::{Corner, Tableau};
 use problem_core::Mark;
 use std::alloc::Global;
 
 // The mark that enters where the required rows cost. A choice is one at the strongest level, so that only
 // before a conflict all lines are looked at again.
-fn required_entering(alloc: Global, c: &Corner, found: Option<Choice>) -> Result<Mark, RunStop>
+fn required_entering<T: Tableau>(
+    alloc: Global,
+    c: &Corner<T>,
+    found: Option<Choice>,
+) -> Result<Mark, RunStop>
     requires costs { CostsAbove c.now.problem c.now.marks 0 }
     requires found { IfSome found (IsChoice c.now.problem c.now.marks) }
     ensures enters { IfOk result (MayEnter c.now.problem c.now.marks) }
@@ -36,7 +41,7 @@ fn required_entering(alloc: Global, c: &Corner, found: Option<Choice>) -> Result
 }
 
 // The mark of a choice.
-fn mark_of(c: &Corner, found: Option<Choice>) -> Option<Mark>
+fn mark_of<T: Tableau>(c: &Corner<T>, found: Option<Choice>) -> Option<Mark>
     requires { IfSome found (IsChoice c.now.problem c.now.marks) }
     ensures some { IfSome result (IsNegative c.now.problem c.now.marks) }
     ensures none { result ≡ None → found ≡ None }
@@ -46,7 +51,7 @@ fn mark_of(c: &Corner, found: Option<Choice>) -> Option<Mark>
 }
 
 // The mark that enters next, and None at the end of the run.
-fn entering(alloc: Global, c: &mut Corner) -> Result<Option<Mark>, RunStop>
+fn entering<T: Tableau>(alloc: Global, c: &mut Corner<T>) -> Result<Option<Mark>, RunStop>
     ensures problem { c.new.problem ≡ c.old.problem }
     ensures marks { c.new.marks ≡ c.old.marks }
     ensures before { c.new.before ≡ c.old.before }
@@ -68,7 +73,12 @@ fn entering(alloc: Global, c: &mut Corner) -> Result<Option<Mark>, RunStop>
 }
 
 // Exchanges marks from the first one that enters to the end.
-fn run_on(alloc: Global, c: &mut Corner, budget: u64, first: Mark) -> Result<(), RunStop>
+fn run_on<T: Tableau>(
+    alloc: Global,
+    c: &mut Corner<T>,
+    budget: u64,
+    first: Mark,
+) -> Result<(), RunStop>
     requires marked { 0 < length c.old.before }
     requires values { NoNegativeValue c.old.problem c.old.marks }
     requires first { MayEnter c.old.problem c.old.marks first }
@@ -100,7 +110,7 @@ fn run_on(alloc: Global, c: &mut Corner, budget: u64, first: Mark) -> Result<(),
 /// at the path's last corner. `Spent`: the path has as many exchanges as the budget, and its last corner is
 /// no end. After a stop the caller goes back to the corner's newest mark. Against cycles stands the
 /// lexicographic rule of the simplex method.
-pub fn settle(alloc: Global, c: &mut Corner, budget: u64) -> Result<(), RunStop>
+pub fn settle<T: Tableau>(alloc: Global, c: &mut Corner<T>, budget: u64) -> Result<(), RunStop>
     requires marked { 0 < length c.old.before }
     requires values { NoNegativeValue c.old.problem c.old.marks }
     ensures problem { IfOk result (λ _. c.new.problem ≡ c.old.problem) }

@@ -4,11 +4,12 @@ ghost use Rattle.problem_core.specs.Corners as corners;
 ghost use Rattle.problem_core.specs.Corners.{IsIn};
 ghost use Rattle.corner_laws.specs.Runs.{Writes, Writing, count_at};
 ghost use Rattle.problem_core.specs.declared.stops.What.TheVariants.{Mark as MarkOf};
-ghost use Rattle.corner_ends.specs.Views.{IsMarkOf, IsOutside, IsScaleOf};
+ghost use Rattle.corner_view.specs.Seen.{IsMarkOf, IsOutside, IsScaleOf};
 ghost use Rattle.primal_run.specs.Leaving as leaving;
 ghost use Rattle.primal_run.specs.Leaving.{ForWritings, IsRatioAt, NeverFalls};
 
-use corner_ends::{Corner, coefficient_of, is_below};
+use corner_ends::{coefficient_of, is_below};
+use corner_view::{Corner, Tableau};
 use frac_core::product;
 use problem_core::{Mark, What};
 use std::cmp::Ordering;
@@ -32,7 +33,7 @@ fn opposite(z: i128) -> i128
 }
 
 // The scale of an inside mark's writing.
-fn scale(c: &Corner, m: Mark) -> i64
+fn scale<T: Tableau>(c: &Corner<T>, m: Mark) -> i64
     requires inside { IsIn (corners.place m) c.now.marks }
     ensures is { IsScaleOf c.now.problem c.now.marks (MarkOf m) result }
     ensures of { (w : Writing) → Writes c.now.problem c.now.marks (corners.place m) w
@@ -43,7 +44,7 @@ fn scale(c: &Corner, m: Mark) -> i64
 }
 
 /// The ratio at which an inside mark's value falls to 0 where another one enters, if it falls.
-pub(crate) fn ratio_of(c: &Corner, m: Mark, enter: Mark) -> Option<Ratio>
+pub(crate) fn ratio_of<T: Tableau>(c: &Corner<T>, m: Mark, enter: Mark) -> Option<Ratio>
     requires inside { IsIn (corners.place m) c.now.marks }
     requires outside { IsOutside c.now.problem c.now.marks enter }
     ensures some { IfSome result
@@ -65,7 +66,7 @@ pub(crate) fn ratio_of(c: &Corner, m: Mark, enter: Mark) -> Option<Ratio>
 }
 
 // What an inside mark counts at a mark of the run's first corner, times a number.
-fn count(c: &Corner, m: Mark, f: Mark, by: i64) -> i128
+fn count<T: Tableau>(c: &Corner<T>, m: Mark, f: Mark, by: i64) -> i128
     requires inside { IsIn (corners.place m) c.now.marks }
     requires first { IsMarkOf c.now.problem f }
     ensures { (w : Writing) → Writes c.now.problem c.now.marks (corners.place m) w
@@ -82,7 +83,7 @@ fn count(c: &Corner, m: Mark, f: Mark, by: i64) -> i128
 }
 
 /// The order of what two inside marks count at a mark of the run's first corner, each over its coefficient.
-pub(crate) fn count_order(c: &Corner, a: Ratio, b: Ratio, f: Mark) -> Ordering
+pub(crate) fn count_order<T: Tableau>(c: &Corner<T>, a: Ratio, b: Ratio, f: Mark) -> Ordering
     requires a { IsIn (corners.place a.mark) c.now.marks }
     requires b { IsIn (corners.place b.mark) c.now.marks }
     requires first { IsMarkOf c.now.problem f }

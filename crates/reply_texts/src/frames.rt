@@ -5,6 +5,7 @@ ghost use Rattle.view_tree.specs.Views.{LiveView};
 ghost use Rattle.reply_texts.specs.Frames.{value_text, placed_line, frame_text};
 
 use crate::printing::append_frame;
+use corner_view::Tableau;
 use frac_core::{FRACTION_ROOM, Frac, OutOfMemory, Wide, write_frac};
 use scenes::Scene;
 
@@ -72,7 +73,11 @@ pub(crate) fn named(frame: &[Frac; 4]) -> Frame
 }
 
 /// Appends the line that shows the frame of the view at a place, if a view is there.
-pub fn push_at(out: &mut Vec<u8>, scene: &Scene, place: usize) -> Result<(), OutOfMemory>
+pub fn push_at<T: Tableau>(
+    out: &mut Vec<u8>,
+    scene: &Scene<T>,
+    place: usize,
+) -> Result<(), OutOfMemory>
     ensures line { IfOk result (λ _. (v : LiveView) → slice_get scene.now.scene.tree.views place ≡ Some v
         → out.new.items ≡ out.old.items ++ frame_text scene.now.scene.values v) }
     ensures none { IfOk result (λ _. slice_get scene.now.scene.tree.views place ≡ None
@@ -89,7 +94,7 @@ pub fn push_at(out: &mut Vec<u8>, scene: &Scene, place: usize) -> Result<(), Out
 }
 
 /// Appends the frames of all views.
-pub fn push_frames(out: &mut Vec<u8>, scene: &Scene) -> Result<(), OutOfMemory>
+pub fn push_frames<T: Tableau>(out: &mut Vec<u8>, scene: &Scene<T>) -> Result<(), OutOfMemory>
     ensures { IfOk result (λ _. out.new.items
         ≡ out.old.items ++ flat_map (frame_text scene.now.scene.values) scene.now.scene.tree.views) }
 {

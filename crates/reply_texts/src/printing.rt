@@ -7,6 +7,7 @@ ghost use Rattle.reply_texts.specs.declared.printing.TheConstants.{LINE_ROOM, VA
 ghost use Rattle.name_tables.specs.declared.stops.TheConstants.{NAME_LIMIT};
 
 use crate::frames::{Frame, named};
+use corner_view::Tableau;
 use edge_io::{Failed, Sink, put_all};
 use frac_core::{Frac, OutOfMemory};
 use itoa::Buffer;
@@ -95,7 +96,7 @@ struct Shown<'a> {
 }
 
 // What the line of the view at a place shows, if a view is there.
-fn shown_at(scene: &Scene, place: usize) -> Option<Shown<'_>>
+fn shown_at<T: Tableau>(scene: &Scene<T>, place: usize) -> Option<Shown<'_>>
     ensures some { IfSome result (λ s.
         frame_line s.name.now s.frame.left s.frame.top s.frame.width s.frame.height
         ≡ line_at scene.now.scene place) }
@@ -113,7 +114,7 @@ fn shown_at(scene: &Scene, place: usize) -> Option<Shown<'_>>
 }
 
 // Writes the line that shows the frame of the view at a place to the sink, if a view is there.
-fn print_at<K: Sink>(sink: &mut K, scene: &Scene, place: usize) -> Result<(), Failed>
+fn print_at<K: Sink, T: Tableau>(sink: &mut K, scene: &Scene<T>, place: usize) -> Result<(), Failed>
     ensures { Puts K.held K.faults sink.old sink.new (line_at scene.now.scene place) result }
 {
     match shown_at(scene, place) {
@@ -124,7 +125,7 @@ fn print_at<K: Sink>(sink: &mut K, scene: &Scene, place: usize) -> Result<(), Fa
 
 /// Writes the reply to `frames` to the sink: the lines of the frames of all views, and `ok`. It needs no
 /// memory. `Failed` comes only from the sink, after a prefix of the reply was written.
-pub fn print_frames<K: Sink>(session: &Session, sink: &mut K) -> Result<(), Failed>
+pub fn print_frames<K: Sink, T: Tableau>(session: &Session<T>, sink: &mut K) -> Result<(), Failed>
     ensures { Puts K.held K.faults sink.old sink.new (frames_text session.now.scene) result }
 {
     let scene = session.state();

@@ -20,6 +20,7 @@ use crate::swept::push_stretches;
 use cert_core::{Best, Conflict};
 use claim_writing::{best_text, rows_text};
 use conflict_core::Found;
+use corner_view::Tableau;
 use diagnosis::Diagnosis;
 use frac_core::OutOfMemory;
 use problem_core::Values;
@@ -38,7 +39,7 @@ fn push_ok(out: &mut Vec<u8>) -> Result<(), OutOfMemory>
     Ok(())
 }
 
-fn push_names(session: &Session, out: &mut Vec<u8>) -> Result<(), OutOfMemory>
+fn push_names<T: Tableau>(session: &Session<T>, out: &mut Vec<u8>) -> Result<(), OutOfMemory>
     ensures { IfOk result (λ _. out.new.items ≡ out.old.items
         ++ flat_map name_lines session.now.scene.tree.views) }
 {
@@ -50,14 +51,14 @@ fn push_names(session: &Session, out: &mut Vec<u8>) -> Result<(), OutOfMemory>
 
 /// Appends the reply to `frames`: the lines of the frames of all views, and `ok`. If memory runs out, a part
 /// of it may have been appended.
-pub fn show_frames(session: &Session, out: &mut Vec<u8>) -> Result<(), OutOfMemory>
+pub fn show_frames<T: Tableau>(session: &Session<T>, out: &mut Vec<u8>) -> Result<(), OutOfMemory>
     ensures { IfOk result (λ _. out.new.items ≡ out.old.items ++ frames_text session.now.scene) }
 {
     push_frames(out, session.state())?;
     push_ok(out)
 }
 
-fn show_rows(session: &Session, out: &mut Vec<u8>) -> Result<(), OutOfMemory>
+fn show_rows<T: Tableau>(session: &Session<T>, out: &mut Vec<u8>) -> Result<(), OutOfMemory>
     ensures { IfOk result (λ _. out.new.items ≡ out.old.items ++ rows_text session.now.scene) }
 {
     push_names(session, out)?;
@@ -65,7 +66,11 @@ fn show_rows(session: &Session, out: &mut Vec<u8>) -> Result<(), OutOfMemory>
     push_ok(out)
 }
 
-fn show_certificate(session: &Session, best: &Best, out: &mut Vec<u8>) -> Result<(), OutOfMemory>
+fn show_certificate<T: Tableau>(
+    session: &Session<T>,
+    best: &Best,
+    out: &mut Vec<u8>,
+) -> Result<(), OutOfMemory>
     ensures { IfOk result (λ _. out.new.items
         ≡ out.old.items ++ certificate_text session.now.scene best.now) }
 {
@@ -75,7 +80,11 @@ fn show_certificate(session: &Session, best: &Best, out: &mut Vec<u8>) -> Result
     push_ok(out)
 }
 
-fn show_found(session: &Session, found: &Diagnosis, out: &mut Vec<u8>) -> Result<(), OutOfMemory>
+fn show_found<T: Tableau>(
+    session: &Session<T>,
+    found: &Diagnosis,
+    out: &mut Vec<u8>,
+) -> Result<(), OutOfMemory>
     ensures { IfOk result (λ _. out.new.items
         ≡ out.old.items ++ diagnosis_text session.now.scene (findings_of found.now)) }
 {
@@ -113,7 +122,11 @@ fn show_answer(found: &Found, out: &mut Vec<u8>) -> Result<(), OutOfMemory>
     }
 }
 
-fn show_swept(session: &Session, swept: &Stretches, out: &mut Vec<u8>) -> Result<(), OutOfMemory>
+fn show_swept<T: Tableau>(
+    session: &Session<T>,
+    swept: &Stretches,
+    out: &mut Vec<u8>,
+) -> Result<(), OutOfMemory>
     ensures { IfOk result (λ _. out.new.items
         ≡ out.old.items ++ sweep_text session.now.scene (stretches_of swept.now.0.items)) }
 {
@@ -122,7 +135,11 @@ fn show_swept(session: &Session, swept: &Stretches, out: &mut Vec<u8>) -> Result
 }
 
 // Appends the text of the reply to an accepted line.
-fn push_reply(session: &Session, reply: &Reply, out: &mut Vec<u8>) -> Result<(), OutOfMemory>
+fn push_reply<T: Tableau>(
+    session: &Session<T>,
+    reply: &Reply,
+    out: &mut Vec<u8>,
+) -> Result<(), OutOfMemory>
     ensures { IfOk result (λ _. out.new.items
         ≡ out.old.items ++ text_of session.now.scene (accepted reply.now)) }
 {
@@ -139,8 +156,8 @@ fn push_reply(session: &Session, reply: &Reply, out: &mut Vec<u8>) -> Result<(),
 }
 
 // Appends the text of the reply to a command, or a part of it.
-fn push_told(
-    session: &Session,
+fn push_told<T: Tableau>(
+    session: &Session<T>,
     reply: &Result<Reply, Refusal>,
     out: &mut Vec<u8>,
 ) -> Result<(), OutOfMemory>
@@ -154,9 +171,9 @@ fn push_told(
 }
 
 // The text of the reply to a command.
-fn text_for(
+fn text_for<T: Tableau>(
     alloc: Global,
-    session: &Session,
+    session: &Session<T>,
     reply: &Result<Reply, Refusal>,
 ) -> Result<Vec<u8>, OutOfMemory>
     ensures { IfOk result (λ text. Tells (λ told. text.items ≡ text_of session.now.scene told) reply.now) }
@@ -167,8 +184,8 @@ fn text_for(
 }
 
 // Appends the text of the reply to a command, whole or not at all.
-fn append_text(
-    session: &Session,
+fn append_text<T: Tableau>(
+    session: &Session<T>,
     reply: &Result<Reply, Refusal>,
     out: &mut Vec<u8>,
 ) -> Result<(), OutOfMemory>
@@ -183,8 +200,8 @@ fn append_text(
 
 /// Appends the lines of the reply to a command of the session. If memory ran out, there are none, and nothing
 /// is appended. If a change was made, room for [`OK_LENGTH`] bytes is enough.
-pub fn reply_text(
-    session: &Session,
+pub fn reply_text<T: Tableau>(
+    session: &Session<T>,
     reply: &Result<Reply, Refusal>,
     out: &mut Vec<u8>,
 ) -> Result<(), OutOfMemory>

@@ -11,7 +11,8 @@ use Rattle.problem_core.specs.Gaps.{HasValue, value_of}
 use Rattle.view_tree.specs.Attributes.{left_of, top_of, width_of, height_of}
 use Rattle.view_tree.specs.Views.{LiveView, view_of}
 use Rattle.layout_solver.specs.Layouts.{AreApart, IsKeptSolution, Solution}
-use Rattle.layout_solver.specs.Moves.{AreMoved, AreMovedSince, HasMoved, HasStayed, HasValueOf, Shows}
+use Rattle.corner_view.specs.Moves.{AreMoved, AreMovedSince, HasMoved, HasStayed, Shows}
+use Rattle.layout_solver.specs.Moves.{HasValueOf}
 use Rattle.layout_solver.proofs.ApartValues.{value_in, value_is}
 use Rattle.held_items.specs.Attributes.{all_attributes, view_attributes}
 use Rattle.scenes.specs.Frames.{IsFrameOf, frame_of}

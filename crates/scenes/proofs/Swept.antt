@@ -12,7 +12,7 @@ use Rattle.problem_core.specs.Window.{required_row}
 use Rattle.view_tree.specs.Attributes.{width_of}
 use Rattle.compile_parts.specs.Fractions.{negated, plus}
 use Rattle.compile_parts.specs.Meaning.{MetricList}
-use Rattle.corner.specs.Shifts.Shifting.{IsNear}
+use Rattle.corner_view.specs.Changes.{IsNear}
 use Rattle.layout_solver.specs.Layouts.{IsKeptLayout, Layout, stays_at}
 use Rattle.held_items.specs.Items.{AreItemRows, AreRows, Intrinsic, Item, OfLine, OfView, OfWindow, Size, Sized, Suggested, is_size, own_size, size_of}
 use Rattle.held_items.specs.Moving.{FitsAfter}

@@ -1,6 +1,6 @@
 // Laws on what has moved.
 ghost use Rattle.std.specs.Prelude.{◌≡◌, ℕ, None, Some};
-ghost use Rattle.layout_solver.specs.Moves.{HasMoved, HasStayed};
+ghost use Rattle.corner_view.specs.Moves.{HasMoved, HasStayed};
 ghost use Rattle.scenes.specs.Frames.{IsFrameOf};
 ghost use Rattle.scenes.specs.Scene.{Scene};
 ghost use Rattle.view_tree.specs.Views as views;

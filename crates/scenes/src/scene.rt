@@ -24,6 +24,7 @@ use crate::scene::past::{Past, Setting, put};
 use crate::scene::values::values_of;
 use cert_core::Best;
 use constraint_compile::Suggestion;
+use corner_view::Tableau;
 use diagnosis::{Diagnosis, Stopped, diagnose};
 use frac_core::{Frac, OutOfMemory};
 use held_items::{
@@ -45,12 +46,12 @@ use view_tree::{Tree, VIEW_LIMIT, ViewId};
 /// The views, the metrics, what is held, and the engine with its rows and the best values; and the earlier
 /// scenes. Each shares its unchanged parts with the scene after it.
 #[derive(Drop)]
-pub struct Scene {
+pub struct Scene<T: Tableau> {
     tree: Tree,
     metrics: Metrics,
     items: VersionList<Item>,
     setting: Setting,
-    engine: Engine,
+    engine: Engine<T>,
     // The parts of each earlier scene that differ from the scene after it, the latest first.
     pasts: VecDeque<Past>,
     // How many earlier scenes there may be.
@@ -58,7 +59,7 @@ pub struct Scene {
     alloc: Global,
 }
 
-impl Model for Scene {
+impl<T: Tableau> Model for Scene<T> {
     ghost use Rattle.std.specs.Prelude.{◌<◌};
     ghost use Rattle.std.specs.VecDeque.{deque_capacity};
     ghost use Rattle.held_items.specs.declared.limits.TheConstants.{EARLIER};
@@ -94,7 +95,7 @@ fn first_request(alloc: Global) -> Result<Request, OutOfMemory>
 }
 
 // Adds the window's rows to an engine without rows. No earlier layout is kept.
-fn begin(engine: &mut Engine, request: &Request) -> Result<(), OutOfMemory>
+fn begin<T: Tableau>(engine: &mut Engine<T>, request: &Request) -> Result<(), OutOfMemory>
     requires new { engine.old ≡ no_layout }
     requires first { IsFirst request.now }
     ensures problem { IfOk result
@@ -110,7 +111,7 @@ fn begin(engine: &mut Engine, request: &Request) -> Result<(), OutOfMemory>
 }
 
 // The engine of the window's rows, without an earlier layout.
-fn first_engine(alloc: Global) -> Result<Engine, OutOfMemory>
+fn first_engine<T: Tableau>(alloc: Global) -> Result<Engine<T>, OutOfMemory>
     ensures problem { IfOk result
         (λ engine. engine.problem ≡ record { rows = structural_rows; stays = new_stays 0 }) }
     ensures best { IfOk result (λ engine. AreBest engine.problem engine.values) }
@@ -138,7 +139,7 @@ fn is_near_sweep(present: Frac, from: Frac, to: Frac) -> bool
     fits_after(present, from) && fits_after(present, to) && fits_after(from, to)
 }
 
-impl Scene {
+impl<T: Tableau> Scene<T> {
     ghost use Rattle.view_tree.specs.Views.{first_tree, view_of};
     ghost use Rattle.view_tree.specs.declared.limits.TheConstants.{VIEW_LIMIT};
     ghost use Rattle.diagnosis.specs.Diagnoses.{findings_of};
@@ -163,7 +164,7 @@ impl Scene {
         items: VersionList<Item>,
         pasts: VecDeque<Past>,
         undo: usize,
-    ) -> Result<Scene, OutOfMemory>
+    ) -> Result<Scene<T>, OutOfMemory>
         requires tree { tree ≡ first_tree tree.most }
         requires metrics { metrics ≡ [] }
         requires items { items ≡ record { items = kind.OfWindow ∷ []; before = [] } }
@@ -197,7 +198,7 @@ impl Scene {
         tree: Tree,
         metrics: Metrics,
         undo: usize,
-    ) -> Result<Scene, OutOfMemory>
+    ) -> Result<Scene<T>, OutOfMemory>
         requires tree { tree ≡ first_tree tree.most }
         requires metrics { metrics ≡ [] }
         requires undo { undo ≤ EARLIER }
@@ -211,7 +212,7 @@ impl Scene {
     }
 
     /// The window alone, with at most `views` live views and at most `undo` earlier scenes.
-    pub fn with(alloc: Global, views: u32, undo: usize) -> Result<Scene, OutOfMemory>
+    pub fn with(alloc: Global, views: u32, undo: usize) -> Result<Scene<T>, OutOfMemory>
         requires some { 0 < views }
         requires few { views ≤ VIEW_LIMIT }
         requires undo { undo ≤ EARLIER }
@@ -224,7 +225,7 @@ impl Scene {
     }
 
     /// The window alone.
-    pub fn new(alloc: Global) -> Result<Scene, OutOfMemory>
+    pub fn new(alloc: Global) -> Result<Scene<T>, OutOfMemory>
         ensures corner { IfOk result (λ history. IsFirstCorner history.scene.corner) }
         ensures first { IfOk result (λ history.
             history ≡ first_history VIEW_LIMIT EARLIER history.scene.corner) }
@@ -262,7 +263,7 @@ impl Scene {
     }
 
     /// The engine: the problem of the rows of all that is held, and its best values.
-    pub fn engine(&self) -> &Engine
+    pub fn engine(&self) -> &Engine<T>
         ensures rows { result.now.problem.rows ≡ self.now.scene.rows }
         ensures stays { result.now.problem.stays ≡ self.now.scene.stays }
         ensures values { result.now.values ≡ self.now.scene.values }
@@ -394,7 +395,7 @@ impl Scene {
         self.engine.show_layout(); // for the proof: what an engine keeps
         let _dens = (from.den(), to.den()); // for the proof: what fractions keep
         let p = self.problem_here()?;
-        sweep(self.alloc, &p, held.first_row, from, to, budget)
+        sweep::<T>(self.alloc, &p, held.first_row, from, to, budget)
     }
 
     /// Whether there is an earlier scene.

@@ -17,6 +17,7 @@ use compile_parts::{CompileStop, KindWord, resolve_rank};
 use constraint_compile::{
     Compiled, Suggestion, USUAL_RANK, compile_line, priority_or, suggested_constant,
 };
+use corner_view::Tableau;
 use format_compile::{compile_format, format_row_count};
 use frac_core::{Frac, OutOfMemory, Stop};
 use held_items::{
@@ -48,15 +49,15 @@ fn is_no_budget(exchanges: u64) -> bool
 
 /// A scene, how many exchanges each run may make, how much may be held, and the version of the script.
 #[derive(Drop)]
-pub struct Session {
-    scene: Scene,
+pub struct Session<T: Tableau> {
+    scene: Scene<T>,
     budget: u64,
     limits: Limits,
     version: Version,
     alloc: Global,
 }
 
-impl Model for Session {
+impl<T: Tableau> Model for Session<T> {
     ghost use Rattle.session_undo.specs.State.{State};
     ghost use Rattle.session_undo.specs.Kept.{AreLimitsOf, AreWithin, limits_of, session_at};
 
@@ -67,7 +68,7 @@ impl Model for Session {
     ghost invariant = { λ s. AreWithin (limits_of s.limits) × AreLimitsOf s.scene (limits_of s.limits) };
 }
 
-impl Session {
+impl<T: Tableau> Session<T> {
     ghost use Rattle.script_text.specs.Directions.{line_in};
     ghost use Rattle.script_text.specs.Meaning as mean;
     ghost use Rattle.script_text.specs.View.{change_view, coming_view, leaving_view, linear_view};
@@ -118,21 +119,21 @@ impl Session {
     ghost use Rattle.session_undo.specs.Replies as reply;
 
     /// A session of version 1: the window alone, and a budget of 100,000 exchanges.
-    pub fn new(alloc: Global) -> Result<Session, OutOfMemory>
+    pub fn new(alloc: Global) -> Result<Session<T>, OutOfMemory>
         ensures { IfOk result IsFirst }
     {
         Session::with_version(alloc, Version::One)
     }
 
     /// The window alone, and a budget of 100,000 exchanges, for a script of this version.
-    pub fn with_version(alloc: Global, version: Version) -> Result<Session, OutOfMemory>
+    pub fn with_version(alloc: Global, version: Version) -> Result<Session<T>, OutOfMemory>
         ensures { IfOk result (IsFirstOf version) }
     {
         Session::with(alloc, version, FIRST_LIMITS)
     }
 
     /// The window alone, for a script of this version, with these limits.
-    pub fn with(alloc: Global, version: Version, limits: Limits) -> Result<Session, OutOfMemory>
+    pub fn with(alloc: Global, version: Version, limits: Limits) -> Result<Session<T>, OutOfMemory>
         requires { AreWithin (limits_of limits) }
         ensures { IfOk result (IsFirstWith (limits_of limits) version) }
     {
@@ -1290,7 +1291,7 @@ impl Session {
     }
 
     /// The scene.
-    pub fn state(&self) -> &Scene
+    pub fn state(&self) -> &Scene<T>
         ensures scene { result.now.scene ≡ self.now.scene }
         ensures earlier { result.now.earlier ≡ self.now.earlier }
     {
@@ -1314,7 +1315,7 @@ impl Session {
     }
 
     /// The engine: the problem of the rows of all that is held, and its best values.
-    pub fn engine(&self) -> &Engine
+    pub fn engine(&self) -> &Engine<T>
         ensures rows { result.now.problem.rows ≡ self.now.scene.rows }
         ensures stays { result.now.problem.stays ≡ self.now.scene.stays }
         ensures values { result.now.values ≡ self.now.scene.values }

@@ -11,8 +11,8 @@ use Rattle.problem_core.specs.Corners.{IsCorner}
 use Rattle.problem_core.specs.Changes.Paths.{last_marks}
 use Rattle.cert_core.specs.Paths.{Path}
 use Rattle.cert_core.specs.declared.stops.RunStop.TheVariants as run
-use Rattle.corner.specs.Changes.{FromAdded}
-use Rattle.corner_table.proofs.Seen.ShiftedLines.{shift_whole}
+use Rattle.corner_view.specs.AddStops.{FromAdded}
+use Rattle.corner_view.proofs.Seen.ShiftedLines.{shift_whole}
 use Rattle.corner_laws.proofs.PathEnds.Complete.{stops_are_conflicts}
 use Rattle.corner_laws.proofs.PathEnds.Few.{last_corner}
 use Rattle.corner_lines.specs.Shifts.{has_constant, with_constant}

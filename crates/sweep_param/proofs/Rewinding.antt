@@ -1,7 +1,7 @@
 -- The corner of the newest mark again.
 use Rattle.std.proofs.Common.{◌≡◌, ◌∙◌, List, [], ◌∷◌, sym, ap, subst}
-use Rattle.corner.specs.Views.{CornerView, Scene}
-use Rattle.corner.specs.Changes.{IsRewound, scene_of}
+use Rattle.corner_view.specs.Seen.{CornerView, Scene}
+use Rattle.corner_view.specs.Changes.{IsRewound, scene_of}
 use Rattle.corner_ends.specs.Runs.{HasEnded, IsBestEnd}
 use Rattle.sweep_run.specs.Slides.{IsMarked}
 

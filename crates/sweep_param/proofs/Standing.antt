@@ -4,7 +4,7 @@ use Rattle.frac_core.specs.Fraction.{Fraction, IsKept}
 use Rattle.problem_core.specs.declared.parts.Mark.{Mark}
 use Rattle.problem_core.specs.Layout.{Problem}
 use Rattle.problem_core.specs.Corners.{IsCorner}
-use Rattle.corner.specs.Views.{IsKeptCorner}
+use Rattle.corner_view.specs.Seen.{IsKeptCorner}
 use Rattle.corner_ends.specs.Runs.{IsBestEnd}
 use Rattle.corner_lines.specs.Shifts.{with_constant}
 use Rattle.sweep_laws.specs.Fractions.{IsNoMore}

@@ -11,8 +11,8 @@ use Rattle.cert_core.specs.Claims.{times_of}
 use Rattle.cert_core.specs.Stops.{IsStopOf}
 use Rattle.cert_core.specs.declared.stops.RunStop.{RunStop}
 use Rattle.cert_core.specs.declared.stops.RunStop.TheVariants.{Conflict, Unfit, Spent, OutOfMemory}
-use Rattle.corner.specs.Changes.{FromAdded}
-use Rattle.corner.specs.Views.{CornerView, IsKeptCorner, in_order}
+use Rattle.corner_view.specs.AddStops.{FromAdded}
+use Rattle.corner_view.specs.Seen.{CornerView, in_order, IsKeptCorner}
 use Rattle.corner_ends.specs.Runs.{HasEnded, IsBestEnd}
 use Rattle.corner_ends.specs.Trails.{IsNoConflict}
 use Rattle.layout_solver.specs.Starts.{HasAdded, as_problem}

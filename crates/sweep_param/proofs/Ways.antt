@@ -8,7 +8,7 @@ use Rattle.frac_core.specs.Fraction.{Fraction, IsRatio, fraction_order}
 use Rattle.frac_core.proofs.Integers.{diff, diff-add, diff-mul, diff-neg, diff-pos, diff_eq, neg-pos, on_1, on_2}
 use Rattle.frac_core.proofs.Quotients.{size_opposite as size-neg}
 use Rattle.problem_core.specs.Layout.{Problem, Row}
-use Rattle.corner.specs.Shifts.Shifting.{IsNear}
+use Rattle.corner_view.specs.Changes.{IsNear}
 use Rattle.sweep_laws.specs.Fractions.{IsFittingDifference, IsLess, IsNoMore, IsTooLarge, difference}
 use Rattle.sweep_laws.specs.Stops.{HasConstant}
 use Rattle.sweep_run.specs.Slides.{HasSlid}

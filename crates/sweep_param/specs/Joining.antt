@@ -5,7 +5,7 @@ use Rattle.std.specs.Option.{option_map}
 use Rattle.frac_core.specs.Fraction.{Fraction}
 use Rattle.problem_core.specs.declared.parts.Mark.{Mark}
 use Rattle.problem_core.specs.Layout.{Problem}
-use Rattle.corner.specs.Shifts.Shifting.{IsNear}
+use Rattle.corner_view.specs.Changes.{IsNear}
 use Rattle.sweep_laws.specs.Fractions.{IsFittingDifference, IsNoMore}
 use Rattle.sweep_laws.specs.Stops.{HasConstant}
 use Rattle.sweep_laws.specs.Stretches.{Piece, Stretch}

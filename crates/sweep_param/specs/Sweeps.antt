@@ -10,8 +10,8 @@ use Rattle.problem_core.specs.Layout.{Assignment, Problem, Satisfies}
 use Rattle.cert_core.specs.Paths.{Path}
 use Rattle.cert_core.specs.Stops.{IsStopOf}
 use Rattle.cert_core.specs.declared.stops.RunStop.TheVariants as run
-use Rattle.corner.specs.Changes.{FromAdded}
-use Rattle.corner.specs.Views.{in_order}
+use Rattle.corner_view.specs.AddStops.{FromAdded}
+use Rattle.corner_view.specs.Seen.{in_order}
 use Rattle.corner_ends.specs.Runs.{IsBestEnd, IsRun}
 use Rattle.sweep_laws.specs.Stops.{HasConstant, IsSlideEnd, IsSlideFar, IsSlideSpent, IsSlideUnfit}
 use Rattle.sweep_run.specs.declared.stretches.SweepQuantity.TheVariants.{At, Breakpoint}

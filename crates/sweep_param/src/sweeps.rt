@@ -1,6 +1,6 @@
 // The sweep of a row's constant.
 ghost use Rattle.std.specs.Prelude.{◌≡◌, None, Some, IfOk, IfErr, IfSome, IfNone, Any};
-ghost use Rattle.corner.specs.Shifts.Shifting.{IsNear};
+ghost use Rattle.corner_view.specs.Changes.{IsNear};
 ghost use Rattle.corner_ends.specs.Runs.{HasEnded};
 ghost use Rattle.sweep_laws.specs.Fractions.{IsFittingDifference, IsNoMore};
 ghost use Rattle.sweep_laws.specs.Stops.{HasConstant};
@@ -14,7 +14,7 @@ ghost use Rattle.sweep_run.specs.Ways.{IsWayOf};
 ghost use Rattle.sweep_run.specs.declared.ways.Way as ways;
 
 use crate::joining::{Slides, joined, lone_piece};
-use corner::Corner;
+use corner_view::{Corner, Tableau};
 use frac_core::{Frac, OutOfMemory};
 use layout_solver::{started, started_by_rows};
 use problem_core::{Problem, Row};
@@ -84,9 +84,9 @@ fn constant_of(p: &Problem, row: u32) -> Frac
 }
 
 // The slide on this way, where there is one.
-fn slid(
+fn slid<T: Tableau>(
     alloc: Global,
-    c: &mut Corner,
+    c: &mut Corner<T>,
     way: Option<Way>,
     budget: u64,
 ) -> Result<Option<Slid>, SweepStop>
@@ -108,7 +108,7 @@ fn slid(
 }
 
 // The slides up and down from the corner.
-fn both(alloc: Global, c: &mut Corner, range: &Range) -> Result<Slides, SweepStop>
+fn both<T: Tableau>(alloc: Global, c: &mut Corner<T>, range: &Range) -> Result<Slides, SweepStop>
     requires marked { IsMarked c.old }
     requires ended { HasEnded c.old }
     requires range { IsRangeOf c.old.problem range.now }
@@ -123,7 +123,11 @@ fn both(alloc: Global, c: &mut Corner, range: &Range) -> Result<Slides, SweepSto
 }
 
 // The one piece where all is at the present constant.
-fn stood(alloc: Global, c: &Corner, range: &Range) -> Result<Vec<Stretch>, OutOfMemory>
+fn stood<T: Tableau>(
+    alloc: Global,
+    c: &Corner<T>,
+    range: &Range,
+) -> Result<Vec<Stretch>, OutOfMemory>
     requires ended { HasEnded c.now }
     requires range { IsRangeOf c.now.problem range.now }
     requires up { IsNoMore range.now.to range.now.present }
@@ -143,7 +147,11 @@ fn stood(alloc: Global, c: &Corner, range: &Range) -> Result<Vec<Stretch>, OutOf
 }
 
 // The stretches from the corner of the present constant.
-fn swept(alloc: Global, c: &mut Corner, range: &Range) -> Result<Vec<Stretch>, SweepStop>
+fn swept<T: Tableau>(
+    alloc: Global,
+    c: &mut Corner<T>,
+    range: &Range,
+) -> Result<Vec<Stretch>, SweepStop>
     requires marked { IsMarked c.old }
     requires ended { HasEnded c.old }
     requires range { IsRangeOf c.old.problem range.now }
@@ -169,7 +177,7 @@ fn show_stop(stop: &SweepStop)
 }
 
 // The best corner of the problem, found anew and marked.
-fn start(alloc: Global, p: &Problem, range: &Range) -> Result<Corner, SweepStop>
+fn start<T: Tableau>(alloc: Global, p: &Problem, range: &Range) -> Result<Corner<T>, SweepStop>
     requires solvable { HasSolution p.now }
     ensures problem { IfOk result (λ c. c.problem ≡ p.now) }
     ensures started { IfOk result (λ c. IsStarted p.now range.now.budget c.marks) }
@@ -188,13 +196,13 @@ fn start(alloc: Global, p: &Problem, range: &Range) -> Result<Corner, SweepStop>
 }
 
 // The stretches from a corner to which the rows lead one after another, unless something stops that.
-fn swept_by_rows(alloc: Global, p: &Problem, range: &Range) -> Option<Vec<Stretch>>
+fn swept_by_rows<T: Tableau>(alloc: Global, p: &Problem, range: &Range) -> Option<Vec<Stretch>>
     requires range { IsRangeOf p.now range.now }
     ensures { IfSome result (λ s. IsSweep p.now range.now.row range.now.from range.now.to
         (stretches_of s.items)) }
 {
     p.show_whole(); // for the proof: what a problem keeps
-    let Ok(mut corner) = started_by_rows(alloc, p.stays(), p.rows(), range.budget) else {
+    let Ok(mut corner) = started_by_rows::<T>(alloc, p.stays(), p.rows(), range.budget) else {
         return None;
     };
     let all = swept(alloc, &mut corner, range);
@@ -211,7 +219,7 @@ fn swept_by_rows(alloc: Global, p: &Problem, range: &Range) -> Option<Vec<Stretc
 /// Where something stops that, all rows join at once, a run follows, and then the slides, each with the whole
 /// budget. `Unfit` names what doesn't fit at the end of a lawful path, with the constant at which that is,
 /// `Spent` a path of as many exchanges as the budget.
-pub fn sweep(
+pub fn sweep<T: Tableau>(
     alloc: Global,
     p: &Problem,
     row: u32,
@@ -234,10 +242,10 @@ pub fn sweep(
         to,
         budget,
     };
-    if let Some(all) = swept_by_rows(alloc, p, &range) {
+    if let Some(all) = swept_by_rows::<T>(alloc, p, &range) {
         return Ok(all);
     }
-    let mut corner = start(alloc, p, &range)?;
+    let mut corner = start::<T>(alloc, p, &range)?;
     let all = swept(alloc, &mut corner, &range);
     drop(corner); // for the proof: moved on, not taken apart here
     match all {

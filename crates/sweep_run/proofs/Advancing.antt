@@ -5,7 +5,7 @@ use Rattle.std.specs.Prelude.{Some, None, IfSome}
 use Rattle.problem_core.specs.declared.parts.Mark.{Mark}
 use Rattle.problem_core.specs.Layout.{Problem}
 use Rattle.problem_core.specs.Corners.{IsCorner}
-use Rattle.corner_ends.specs.Views.{CornerView}
+use Rattle.corner_view.specs.Seen.{CornerView}
 use Rattle.corner_ends.specs.Trails.{Trail}
 use Rattle.sweep_laws.specs.Fractions.{IsLess, IsNoMore}
 use Rattle.sweep_laws.proofs.Costs.{IsEachCorner}

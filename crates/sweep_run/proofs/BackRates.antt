@@ -19,9 +19,8 @@ use Rattle.corner_laws.proofs.MarkWritings.Equations.{writings_are_equal}
 use Rattle.corner_laws.proofs.MarkWritings.LowestForms.{attrs_are_fixed, marks_are_fixed}
 use Rattle.corner_lines.specs.Shifts.{with_constant}
 use Rattle.corner_lines.proofs.ProblemChanges.Shifted.{shift-small}
-use Rattle.corner_table.proofs.Readings.MarkFacts.{same_mark}
-use Rattle.corner_table.proofs.Readings.ReadFacts.{named_in}
-use Rattle.corner_ends.specs.Views.{HasValueAt, IsCoefficientOf, IsColumnOf, IsKeptCorner, IsMarkOf, IsScaleOf, IsWritten}
+use Rattle.corner_view.proofs.Facts.{named_in, same_mark}
+use Rattle.corner_view.specs.Seen.{HasValueAt, IsCoefficientOf, IsColumnOf, IsKeptCorner, IsMarkOf, IsScaleOf, IsWritten}
 use Rattle.corner_ends.proofs.Marks.{in_mark}
 use Rattle.corner_ends.proofs.RequiredTimes.{row_named}
 use Rattle.sweep_laws.specs.Fractions.{difference}

@@ -19,8 +19,9 @@ use Rattle.problem_core.specs.Corners.{Swap}
 use Rattle.problem_core.specs.Changes.Paths.{IsPath}
 use Rattle.problem_core.specs.Unfit.{IsUnfitWhat}
 use Rattle.cert_core.specs.Paths.{Path}
-use Rattle.corner_ends.specs.Changes.{IsRewound, IsUnfitStop, scene_of}
-use Rattle.corner_ends.specs.Views.{CornerView, IsKeptCorner, Scene}
+use Rattle.corner_view.specs.Changes.{IsRewound, scene_of}
+use Rattle.corner_view.specs.Stops.{IsUnfitStop}
+use Rattle.corner_view.specs.Seen.{CornerView, IsKeptCorner, Scene}
 use Rattle.corner_ends.specs.Runs.{IsBestEnd}
 use Rattle.corner_ends.specs.Trails.{IsTrailOf, Trail}
 use Rattle.corner_lines.specs.Shifts.{has_constant, with_constant}

@@ -6,7 +6,7 @@ use Rattle.problem_core.specs.declared.parts.Mark.{Mark}
 use Rattle.problem_core.specs.declared.parts.RowName.{RowName}
 use Rattle.problem_core.specs.Layout.{Problem}
 use Rattle.problem_core.specs.Corners.{HasNegativeValue}
-use Rattle.corner_ends.specs.Views.{CornerView, IsKeptCorner}
+use Rattle.corner_view.specs.Seen.{CornerView, IsKeptCorner}
 use Rattle.dual_run.specs.Leaving.{HasNoLow, IsLow}
 use Rattle.sweep_run.specs.declared.rates.Crossing.{Crossing}
 use Rattle.sweep_run.specs.declared.ways.Way.{Way}

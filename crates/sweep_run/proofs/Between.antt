@@ -12,7 +12,7 @@ use Rattle.problem_core.specs.Corners.{Agree, IsCorner, assignment_at, attr_colu
 use Rattle.problem_core.proofs.Corners.Ends.{abs_same}
 use Rattle.problem_core.proofs.Forms.{each-both, each-impl}
 use Rattle.problem_core.proofs.StayNumbers.{all_held}
-use Rattle.corner_ends.specs.Views.{HasValueAt}
+use Rattle.corner_view.specs.Seen.{HasValueAt}
 use Rattle.corner_ends.specs.Runs.{IsBestEnd}
 use Rattle.corner_lines.specs.Shifts.{with_constant}
 use Rattle.sweep_laws.specs.Stretches.{AreAllValues, IsRightPiece}

@@ -3,7 +3,7 @@ use Rattle.std.proofs.Common.{◌≡◌, ℕ, subst, Any}
 use Rattle.frac_core.specs.Fraction.{Fraction, IsKept}
 use Rattle.problem_core.specs.Kept.{IsRow, IsWhole}
 use Rattle.problem_core.specs.Layout.{Problem, Row}
-use Rattle.corner_ends.specs.Views.{CornerView}
+use Rattle.corner_view.specs.Seen.{CornerView}
 use Rattle.sweep_run.specs.declared.ways.Way.{Way}
 use Rattle.sweep_run.specs.Ways.{IsAtEnd, there}
 use Rattle.sweep_run.proofs.Moves.{HasOwn, still}

@@ -12,7 +12,7 @@ use Rattle.problem_core.specs.Changes.Paths.{IsPath, last_marks}
 use Rattle.corner_laws.proofs.RunSteps.RunPaths.{contains_in, same_stands}
 use Rattle.cert_core.specs.Paths.{Path}
 use Rattle.corner_lines.specs.Shifts.{with_constant}
-use Rattle.corner_ends.specs.Views.{CornerView, IsKeptCorner}
+use Rattle.corner_view.specs.Seen.{CornerView, IsKeptCorner}
 use Rattle.corner_ends.specs.Trails.{IsTrailOf, Trail}
 use Rattle.corner_ends.proofs.Trails.{run_lawful}
 use Rattle.sweep_laws.specs.Fractions.{IsBetween, IsTooLarge, difference}

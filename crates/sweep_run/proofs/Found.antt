@@ -11,7 +11,7 @@ use Rattle.problem_core.specs.Layout.{Problem}
 use Rattle.problem_core.specs.Corners.{IsIn, NoNegativeValue, place}
 use Rattle.problem_core.proofs.Forms.{each-impl}
 use Rattle.problem_core.proofs.Marks.{in-list as in_list}
-use Rattle.corner_ends.specs.Views.{CornerView, IsKeptCorner}
+use Rattle.corner_view.specs.Seen.{CornerView, IsKeptCorner}
 use Rattle.dual_run.specs.Leaving.{AreLowLines, IsLow}
 use Rattle.sweep_run.specs.declared.rates.Crossing.{Crossing}
 use Rattle.sweep_run.specs.declared.ways.Way.{Way}

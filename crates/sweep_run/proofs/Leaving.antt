@@ -16,7 +16,7 @@ use Rattle.problem_core.specs.Changes.Paths.{ArePathSwaps, last_marks}
 use Rattle.problem_core.proofs.Marks.{same-back}
 use Rattle.corner_laws.proofs.MarkWritings.LowestForms.{marks_are_fixed}
 use Rattle.corner_laws.proofs.RunSteps.RunPaths.{contains_in, same_stands}
-use Rattle.corner_ends.specs.Views.{CornerView, HasValueAt, IsKeptCorner}
+use Rattle.corner_view.specs.Seen.{CornerView, HasValueAt, IsKeptCorner}
 use Rattle.corner_ends.specs.Runs.{IsBestEnd}
 use Rattle.corner_ends.specs.Trails.{HasRun, IsTrailOf, StaysTrail, Trail}
 use Rattle.corner_ends.proofs.MarkOrders.{last_same}

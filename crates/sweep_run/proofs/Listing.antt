@@ -19,9 +19,9 @@ use Rattle.corner_laws.proofs.Counting.{IsIn-from_is_place}
 use Rattle.corner_laws.proofs.MarkWritings.Directions.{ray_number}
 use Rattle.corner_laws.proofs.MarkWritings.LowestForms.{column_has_writing}
 use Rattle.corner_laws.proofs.ZeroColumns.{not-in}
-use Rattle.corner_table.proofs.Readings.MarkFacts.{same_mark}
-use Rattle.corner_writings.specs.Lows.{HasValueUp, IsListedIfLow, ListsLow}
-use Rattle.corner_ends.specs.Views.{HasValueAt, IsCoefficientOf, IsKeptCorner, IsScaleOf, MovesWith}
+use Rattle.corner_view.proofs.Facts.{same_mark}
+use Rattle.corner_view.specs.Lows.{HasValueUp, IsListedIfLow, ListsLow}
+use Rattle.corner_view.specs.Seen.{HasValueAt, IsCoefficientOf, IsKeptCorner, IsScaleOf, MovesWith}
 use Rattle.corner_ends.proofs.Marks.{in_mark}
 use Rattle.dual_run.specs.Leaving.{AreLowLines, IsLow}
 use Rattle.dual_run.proofs.Lows.{no_low_value}

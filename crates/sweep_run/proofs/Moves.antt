@@ -23,7 +23,7 @@ use Rattle.corner_laws.proofs.WrittenValues.{crossed, form_there, value_there}
 use Rattle.corner_lines.specs.Shifts.{IsShift, has_constant, with_constant}
 use Rattle.corner_lines.proofs.ProblemChanges.Shifted.{changed, raised-here, raised-other, raised-value, same-marks, shift-off, shift-on, shift-small, unshift-solves, unshifted}
 use Rattle.corner_lines.proofs.ProblemChanges.ShiftedCorner.{shift_corner}
-use Rattle.corner_ends.specs.Views.{HasValueAt}
+use Rattle.corner_view.specs.Seen.{HasValueAt}
 use Rattle.sweep_laws.specs.Fractions.{difference}
 use Rattle.sweep_laws.proofs.Mixtures.{IsZeroOutside, zeros-there}
 use Rattle.sweep_run.specs.Ways.{backwards, far_back}

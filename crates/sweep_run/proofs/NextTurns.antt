@@ -14,7 +14,7 @@ use Rattle.corner_laws.proofs.MarkWritings.LowestForms.{marks_are_fixed}
 use Rattle.corner_laws.proofs.WrittenValues.{contains_each}
 use Rattle.corner_lines.specs.Shifts.{with_constant}
 use Rattle.corner_lines.proofs.ProblemChanges.ShiftedCorner.{shift_corner}
-use Rattle.corner_ends.specs.Views.{CornerView, IsKeptCorner}
+use Rattle.corner_view.specs.Seen.{CornerView, IsKeptCorner}
 use Rattle.corner_ends.specs.Runs.{IsBestEnd}
 use Rattle.dual_run.specs.Leaving.{IsLow}
 use Rattle.dual_run.proofs.Lows.{same_sign}

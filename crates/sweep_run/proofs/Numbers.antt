@@ -9,7 +9,7 @@ use Rattle.problem_core.specs.Kept.{AreRising}
 use Rattle.problem_core.specs.Layout.{Problem}
 use Rattle.problem_core.specs.Corners.{attr_column}
 use Rattle.problem_core.specs.Numbers.{AreNumbersOf}
-use Rattle.corner_ends.specs.Views.{HasValueAt}
+use Rattle.corner_view.specs.Seen.{HasValueAt}
 use Rattle.sweep_run.specs.Values.{AreListed, AreValuesAt}
 
 pub listed_none : (p : Problem) (at : List Mark) → AreListed p at [] []

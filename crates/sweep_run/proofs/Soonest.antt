@@ -15,7 +15,7 @@ use Rattle.problem_core.specs.Corners.{HasNegativeValue, IsCorner, NoNegativeVal
 use Rattle.corner_laws.proofs.MarkWritings.LowestForms.{marks_are_fixed}
 use Rattle.corner_laws.proofs.WrittenValues.{contains_each}
 use Rattle.corner_lines.proofs.ProblemChanges.ShiftedCorner.{shift_corner}
-use Rattle.corner_ends.specs.Views.{HasValueAt, IsKeptCorner}
+use Rattle.corner_view.specs.Seen.{HasValueAt, IsKeptCorner}
 use Rattle.corner_ends.proofs.Marks.{in_mark}
 use Rattle.dual_run.specs.Leaving.{IsLow}
 use Rattle.dual_run.proofs.Lows.{low_everywhere, other_not_low, same_or_other, same_sign}

@@ -7,7 +7,7 @@ use Rattle.frac_core.specs.Fraction.{Fraction}
 use Rattle.problem_core.specs.declared.parts.Mark.{Mark}
 use Rattle.problem_core.specs.Kept.{IsWhole}
 use Rattle.problem_core.specs.Layout.{Problem}
-use Rattle.corner_ends.specs.Views.{CornerView}
+use Rattle.corner_view.specs.Seen.{CornerView}
 use Rattle.sweep_laws.specs.Stretches.{AreRight, IsLong, IsPieceOf, Stretch}
 use Rattle.sweep_laws.proofs.Costs.{IsEachCorner}
 use Rattle.sweep_run.specs.declared.slides.Slid.{Slid}

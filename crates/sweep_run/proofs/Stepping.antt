@@ -5,7 +5,7 @@ use Rattle.problem_core.specs.declared.parts.Mark.{Mark}
 use Rattle.problem_core.specs.Layout.{Problem}
 use Rattle.problem_core.specs.Corners.{NoNegativeColumn, NoNegativeValue, Swap}
 use Rattle.problem_core.specs.Levels.{CostsAbove}
-use Rattle.corner_ends.specs.Views.{CornerView, IsKeptCorner, Scene}
+use Rattle.corner_view.specs.Seen.{CornerView, IsKeptCorner, Scene}
 use Rattle.corner_ends.specs.Runs.{IsBestEnd}
 use Rattle.corner_ends.specs.Trails.{IsTrailOf, Trail}
 use Rattle.corner_lines.specs.Shifts.{with_constant}

@@ -21,7 +21,7 @@ use Rattle.cert_core.specs.Paths.{Path}
 use Rattle.cert_core.specs.Stops.{IsSpentPath, IsStopOf, IsUnfitPath}
 use Rattle.cert_core.specs.declared.stops.RunStop.{RunStop}
 use Rattle.cert_core.specs.declared.stops.RunStop.TheVariants as run
-use Rattle.corner_ends.specs.Views.{CornerView}
+use Rattle.corner_view.specs.Seen.{CornerView}
 use Rattle.corner_ends.specs.Runs.{FromHere}
 use Rattle.corner_ends.specs.Trails.{HasRun, IsNoConflict, IsTrailOf, Trail}
 use Rattle.corner_ends.proofs.MarkOrders.{unfit_same}

@@ -12,7 +12,7 @@ use Rattle.problem_core.specs.Layout.{HasStay, Problem}
 use Rattle.problem_core.specs.Corners.{Agree, IsCorner, Point, StandsAt, attr_column, one_column}
 use Rattle.problem_core.specs.Unfit.{IsUnfitWhat, IsWritingOf}
 use Rattle.corner_laws.proofs.WrittenValues.{crossed, value_there}
-use Rattle.corner_ends.specs.Views.{HasValueAt}
+use Rattle.corner_view.specs.Seen.{HasValueAt}
 use Rattle.sweep_run.specs.declared.rates.Rate.{Rate}
 use Rattle.sweep_run.specs.declared.ways.Place.{Place}
 use Rattle.sweep_run.specs.declared.ways.Way.{Way}

@@ -12,8 +12,8 @@ use Rattle.problem_core.specs.Corners.{NoNegativeColumn}
 use Rattle.cert_core.specs.declared.by.By.{By}
 use Rattle.cert_core.specs.declared.stops.RunStop.{RunStop}
 use Rattle.cert_core.specs.declared.stops.RunStop.TheVariants as run
-use Rattle.corner_ends.specs.Changes.{scene_of}
-use Rattle.corner_ends.specs.Views.{CornerView, Scene}
+use Rattle.corner_view.specs.Changes.{scene_of}
+use Rattle.corner_view.specs.Seen.{CornerView, Scene}
 use Rattle.corner_ends.specs.Trails.{IsPathBy, IsTrailOf, Trail}
 use Rattle.sweep_laws.specs.Laws.{LeavesAt}
 use Rattle.sweep_laws.specs.Stops.{IsSlideFar, IsSlideSpent, IsSlideUnfit, Turns}

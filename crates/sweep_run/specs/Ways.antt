@@ -15,8 +15,8 @@ use Rattle.problem_core.specs.Layout.{Problem}
 use Rattle.problem_core.specs.Kept.{IsWhole}
 use Rattle.problem_core.specs.Unfit.{IsUnfitWhat}
 use Rattle.problem_core.specs.Corners.{attr_column, place}
-use Rattle.corner_ends.specs.Views.{CornerView, HasValueAt}
-use Rattle.corner_ends.specs.Changes.{IsNear}
+use Rattle.corner_view.specs.Seen.{CornerView, HasValueAt}
+use Rattle.corner_view.specs.Changes.{IsNear}
 use Rattle.corner_ends.specs.Runs.{IsBestEnd}
 use Rattle.corner_lines.specs.Shifts.{with_constant}
 use Rattle.dual_run.specs.Leaving.{IsLow}

@@ -4,13 +4,13 @@ ghost use Rattle.frac_core.specs.Fraction.{IsFitting, IsKept, IsRatio, IsUnfitRa
 ghost use Rattle.problem_core.specs.Corners as corners;
 ghost use Rattle.problem_core.specs.Corners.{IsIn, NoNegativeValue};
 ghost use Rattle.problem_core.specs.declared.stops.What.TheVariants.{Mark as MarkOf};
-ghost use Rattle.corner_ends.specs.Views.{IsNamed, IsWritten};
+ghost use Rattle.corner_view.specs.Seen.{IsNamed, IsWritten};
 ghost use Rattle.dual_run.specs.Leaving.{AreLowLines, IsLow};
 ghost use Rattle.sweep_run.specs.Ways.{HasReached, IsAtEnd, IsBackRate, IsBetterOf, IsCrossing, IsFarther};
 ghost use Rattle.sweep_run.specs.Ways.{IsOther, IsSoonest};
 
 use crate::ways::Way;
-use corner_ends::Corner;
+use corner_view::{Corner, Tableau};
 use dual_run::low_of;
 use frac_core::{Frac, Unfit, cmp_wide, product};
 use problem_core::{Mark, RowName, What};
@@ -33,7 +33,7 @@ pub(crate) struct Crossing {
 
 /// The rate of an attribute, or of an inside mark but for the row's over mark. Where that is inside, nothing
 /// else moves with the constant; else all moves as with this mark.
-pub(crate) fn rate_of(c: &Corner, way: &Way, what: What) -> Rate
+pub(crate) fn rate_of<T: Tableau>(c: &Corner<T>, way: &Way, what: What) -> Rate
     requires held { IsAtEnd way.now c.now }
     requires what { IsWritten c.now.problem c.now.marks what }
     requires other { IsOther way.now.row what }
@@ -50,7 +50,7 @@ pub(crate) fn rate_of(c: &Corner, way: &Way, what: What) -> Rate
 }
 
 // The rate of an inside mark. The row's over mark is what the terms are above the constant.
-fn mark_rate(c: &Corner, way: &Way, mark: Mark) -> Rate
+fn mark_rate<T: Tableau>(c: &Corner<T>, way: &Way, mark: Mark) -> Rate
     requires held { IsAtEnd way.now c.now }
     requires inside { IsIn (corners.place mark) c.now.marks }
     ensures { IsBackRate c.now.problem c.now.marks way.now (MarkOf mark) result }
@@ -68,7 +68,7 @@ fn mark_rate(c: &Corner, way: &Way, mark: Mark) -> Rate
 
 // Where an inside mark whose value is negative at the end is 0. Its rate is above 0, since it wasn't negative
 // at the place reached.
-fn crossing_of(c: &Corner, way: &Way, mark: Mark) -> Crossing
+fn crossing_of<T: Tableau>(c: &Corner<T>, way: &Way, mark: Mark) -> Crossing
     requires held { IsAtEnd way.now c.now }
     requires low { IsLow c.now.problem c.now.marks mark }
     requires before { HasReached c.now.problem way.now c.now.marks }
@@ -98,7 +98,12 @@ fn farther(a: Crossing, b: Crossing) -> Crossing
 }
 
 // The farthest of what is found and this line's crossing.
-fn better(c: &Corner, way: &Way, found: Option<Crossing>, line: RowName) -> Option<Crossing>
+fn better<T: Tableau>(
+    c: &Corner<T>,
+    way: &Way,
+    found: Option<Crossing>,
+    line: RowName,
+) -> Option<Crossing>
     requires held { IsAtEnd way.now c.now }
     requires line { IsNamed c.now.problem line }
     requires before { HasReached c.now.problem way.now c.now.marks }
@@ -118,7 +123,7 @@ fn better(c: &Corner, way: &Way, found: Option<Crossing>, line: RowName) -> Opti
 }
 
 /// The mark of these lines whose value was 0 first, of those that are negative at the end.
-pub(crate) fn soonest(c: &Corner, way: &Way, low: &[RowName]) -> Option<Crossing>
+pub(crate) fn soonest<T: Tableau>(c: &Corner<T>, way: &Way, low: &[RowName]) -> Option<Crossing>
     requires low { AreLowLines c.now.problem c.now.marks low.now }
     requires held { IsAtEnd way.now c.now }
     requires before { HasReached c.now.problem way.now c.now.marks }

@@ -23,7 +23,8 @@ use crate::stretches::{Stretch, SweepQuantity, SweepStop};
 use crate::values::{values_at, values_here};
 use crate::ways::{Place, Way, is_before};
 use cert_core::{Conflict, RunStop};
-use corner_ends::{Corner, Trail, conflict, is_costly};
+use corner_ends::{Trail, conflict, is_costly};
+use corner_view::{Corner, Tableau};
 use dual_run::{exchange, shift};
 use frac_core::{Frac, OutOfMemory, Stop, Unfit};
 use problem_core::{Mark, Quantity, RowName, Values, What};
@@ -49,7 +50,7 @@ struct Turn {
 // ---- stops
 
 // The stop where this doesn't fit after the exchanges so far, with this constant.
-fn unfit_at(trail: &Trail, c: &Corner, width: Frac, what: SweepQuantity) -> SweepStop
+fn unfit_at<T: Tableau>(trail: &Trail, c: &Corner<T>, width: Frac, what: SweepQuantity) -> SweepStop
     ensures { IsUnfitWith c.now trail.now width what result }
 {
     match trail.path(c) {
@@ -59,7 +60,7 @@ fn unfit_at(trail: &Trail, c: &Corner, width: Frac, what: SweepQuantity) -> Swee
 }
 
 // The stop where the exchanges are used up, at the slide's end.
-fn spent_at(trail: &Trail, c: &Corner, width: Frac) -> SweepStop
+fn spent_at<T: Tableau>(trail: &Trail, c: &Corner<T>, width: Frac) -> SweepStop
     ensures { IsSpentWith c.now trail.now width result }
 {
     match trail.path(c) {
@@ -69,7 +70,7 @@ fn spent_at(trail: &Trail, c: &Corner, width: Frac) -> SweepStop
 }
 
 // The stop where an attribute's value doesn't fit at a place.
-fn value_stop(trail: &Trail, c: &Corner, width: Frac, stop: Stop<u32>) -> SweepStop
+fn value_stop<T: Tableau>(trail: &Trail, c: &Corner<T>, width: Frac, stop: Stop<u32>) -> SweepStop
     ensures { IsValueStop c.now trail.now width stop result }
 {
     match stop {
@@ -143,7 +144,11 @@ fn clash_of(way: &Way, a: Frac, by: Conflict) -> Stretch
 // ---- the slide
 
 // The values at the present constant, where that is shown.
-fn first_values(alloc: Global, c: &Corner, way: &Way) -> Result<Option<Values>, OutOfMemory>
+fn first_values<T: Tableau>(
+    alloc: Global,
+    c: &Corner<T>,
+    way: &Way,
+) -> Result<Option<Values>, OutOfMemory>
     requires way { IsWayOf c.now.problem way.now }
     ensures { IfOk result (λ values. HasShown c.now.problem way.now c.now.marks way.now.first values []) }
 {
@@ -156,7 +161,7 @@ fn first_values(alloc: Global, c: &Corner, way: &Way) -> Result<Option<Values>, 
 }
 
 // Nothing behind it; the values where the present constant is shown.
-fn begun(alloc: Global, c: &Corner, way: &Way) -> Result<Slid, OutOfMemory>
+fn begun<T: Tableau>(alloc: Global, c: &Corner<T>, way: &Way) -> Result<Slid, OutOfMemory>
     requires way { IsWayOf c.now.problem way.now }
     requires end { HasEnded c.now }
     ensures { IfOk result (HasBegun c.now.problem c.now.marks way.now) }
@@ -171,9 +176,9 @@ fn begun(alloc: Global, c: &Corner, way: &Way) -> Result<Slid, OutOfMemory>
 }
 
 // The values at a place, after the exchanges so far.
-fn read_at(
+fn read_at<T: Tableau>(
     alloc: Global,
-    c: &Corner,
+    c: &Corner<T>,
     way: &Way,
     trail: &Trail,
     place: &Place,
@@ -199,9 +204,9 @@ fn is_shown(slid: &Slid) -> bool
 }
 
 // From here on the way is shown, if it wasn't before.
-fn enter(
+fn enter<T: Tableau>(
     alloc: Global,
-    c: &Corner,
+    c: &Corner<T>,
     way: &Way,
     trail: &Trail,
     slid: &mut Slid,
@@ -244,9 +249,9 @@ fn push_piece(
 
 // Goes on to a place at which the corner is still the best one. The values there are read before a mark
 // leaves: after that the path is none at this constant, where the mark's value is 0.
-fn advance(
+fn advance<T: Tableau>(
     alloc: Global,
-    c: &Corner,
+    c: &Corner<T>,
     way: &Way,
     trail: &Trail,
     slid: &mut Slid,
@@ -286,7 +291,12 @@ fn reached(way: &Way, slid: &Slid) -> Frac
 }
 
 // From where the values are best no more the required rows have no solution, up to the slide's end.
-fn push_clash(alloc: Global, c: &Corner, way: &Way, slid: &mut Slid) -> Result<(), OutOfMemory>
+fn push_clash<T: Tableau>(
+    alloc: Global,
+    c: &Corner<T>,
+    way: &Way,
+    slid: &mut Slid,
+) -> Result<(), OutOfMemory>
     requires held { IsAtEnd way.now c.now }
     requires columns { NoNegativeColumn c.now.problem c.now.marks }
     requires costs { CostsAbove c.now.problem c.now.marks 0 }
@@ -313,8 +323,8 @@ fn place_of(way: &Way, crossing: &Crossing) -> Result<Place, Unfit>
 }
 
 // The mark that leaves next, if any value is negative at the end.
-fn next(
-    c: &Corner,
+fn next<T: Tableau>(
+    c: &Corner<T>,
     way: &Way,
     trail: &Trail,
     low: &mut Vec<RowName>,
@@ -346,9 +356,9 @@ fn next(
 }
 
 // The mark leaves, within the budget.
-fn leave(
+fn leave<T: Tableau>(
     trail: &mut Trail,
-    c: &mut Corner,
+    c: &mut Corner<T>,
     way: &Way,
     mark: Mark,
     low: &mut Vec<RowName>,
@@ -377,9 +387,9 @@ fn leave(
 }
 
 // Gives the row the constant of the slide's end.
-fn go_to_end(
+fn go_to_end<T: Tableau>(
     alloc: Global,
-    c: &mut Corner,
+    c: &mut Corner<T>,
     way: &Way,
     low: &mut Vec<RowName>,
 ) -> Result<(), SweepStop>
@@ -405,9 +415,9 @@ fn go_to_end(
 }
 
 // Goes on to the slide's end, where the corner is the best one too.
-fn finish(
+fn finish<T: Tableau>(
     alloc: Global,
-    c: &Corner,
+    c: &Corner<T>,
     way: &Way,
     trail: &Trail,
     slid: &mut Slid,
@@ -426,9 +436,9 @@ fn finish(
 
 // Goes on to the place at which the mark's value is 0. There it leaves, within the budget. (More than five
 // parameters: the parts of a step, of which each is lent on alone.)
-fn turn_at(
+fn turn_at<T: Tableau>(
     alloc: Global,
-    c: &mut Corner,
+    c: &mut Corner<T>,
     way: &Way,
     trail: &mut Trail,
     low: &mut Vec<RowName>,
@@ -457,9 +467,9 @@ fn turn_at(
 }
 
 // One step of the slide. Answers whether that was the last.
-fn step(
+fn step<T: Tableau>(
     alloc: Global,
-    c: &mut Corner,
+    c: &mut Corner<T>,
     way: &Way,
     trail: &mut Trail,
     low: &mut Vec<RowName>,
@@ -497,7 +507,12 @@ fn step(
 /// Slides from the corner, at which the run for the present constant has ended, to the end of the way, and
 /// tells what is best on the way from where that is shown. The corner is then that of the slide's end, or one
 /// that shows a conflict there; after a stop the caller goes back to the corner's newest mark.
-pub fn slide(alloc: Global, c: &mut Corner, way: &Way, budget: u64) -> Result<Slid, SweepStop>
+pub fn slide<T: Tableau>(
+    alloc: Global,
+    c: &mut Corner<T>,
+    way: &Way,
+    budget: u64,
+) -> Result<Slid, SweepStop>
     requires marked { IsMarked c.old }
     requires end { HasEnded c.old }
     requires way { IsWayOf c.old.problem way.now }

@@ -3,20 +3,25 @@ ghost use Rattle.std.specs.Prelude.{All, IfOk, IfErr};
 ghost use Rattle.frac_core.specs.Fraction.{IsKept};
 ghost use Rattle.problem_core.specs.Layout.{HasStay};
 ghost use Rattle.problem_core.specs.Corners.{attr_column};
-ghost use Rattle.corner_ends.specs.Views.{HasValueAt};
+ghost use Rattle.corner_view.specs.Seen.{HasValueAt};
 ghost use Rattle.corner_lines.specs.Shifts.{with_constant};
 ghost use Rattle.sweep_run.specs.Values.{AreListed, AreValuesAt};
 ghost use Rattle.sweep_run.specs.Ways.{IsAtEnd, IsPlace, IsUnfitStopThere};
 
 use crate::rates::{rate_of, value_back};
 use crate::ways::{Place, Way};
-use corner_ends::Corner;
+use corner_view::{Corner, Tableau};
 use frac_core::{Frac, OutOfMemory, Stop};
 use problem_core::{Values, What, numbers_of};
 use std::alloc::Global;
 
 // The value of an attribute at the place.
-fn value_at(c: &Corner, way: &Way, attr: u32, place: &Place) -> Result<Frac, Stop<u32>>
+fn value_at<T: Tableau>(
+    c: &Corner<T>,
+    way: &Way,
+    attr: u32,
+    place: &Place,
+) -> Result<Frac, Stop<u32>>
     requires held { IsAtEnd way.now c.now }
     requires attr { HasStay c.now.problem.stays attr }
     requires place { IsPlace way.now.up way.now.end place.now }
@@ -36,9 +41,9 @@ fn value_at(c: &Corner, way: &Way, attr: u32, place: &Place) -> Result<Frac, Sto
 }
 
 // These attributes with their values at the place, or the one whose value doesn't fit.
-fn pairs_at(
+fn pairs_at<T: Tableau>(
     alloc: Global,
-    c: &Corner,
+    c: &Corner<T>,
     way: &Way,
     place: &Place,
     attrs: &[u32],
@@ -58,9 +63,9 @@ fn pairs_at(
 }
 
 /// The values of all attributes at the place, or the attribute whose value doesn't fit.
-pub(crate) fn values_at(
+pub(crate) fn values_at<T: Tableau>(
     alloc: Global,
-    c: &Corner,
+    c: &Corner<T>,
     way: &Way,
     place: &Place,
 ) -> Result<Values, Stop<u32>>
@@ -77,7 +82,11 @@ pub(crate) fn values_at(
 }
 
 // These attributes with their values at the corner.
-fn pairs_here(alloc: Global, c: &Corner, attrs: &[u32]) -> Result<Vec<(u32, Frac)>, OutOfMemory>
+fn pairs_here<T: Tableau>(
+    alloc: Global,
+    c: &Corner<T>,
+    attrs: &[u32],
+) -> Result<Vec<(u32, Frac)>, OutOfMemory>
     requires { All (HasStay c.now.problem.stays) attrs.now }
     ensures { IfOk result (λ pairs. AreListed c.now.problem c.now.marks attrs.now pairs.items) }
 {
@@ -91,7 +100,7 @@ fn pairs_here(alloc: Global, c: &Corner, attrs: &[u32]) -> Result<Vec<(u32, Frac
 }
 
 /// The values of all attributes at the corner.
-pub fn values_here(alloc: Global, c: &Corner) -> Result<Values, OutOfMemory>
+pub fn values_here<T: Tableau>(alloc: Global, c: &Corner<T>) -> Result<Values, OutOfMemory>
     ensures { IfOk result (AreValuesAt c.now.problem c.now.marks) }
 {
     c.show_corner(); // for the proof: what a corner keeps

@@ -1,6 +1,7 @@
 // The explanation of a conflict.
 use crate::problem::posed;
 use crate::telling::Telling;
+use corner_view::Tableau;
 use problem_core::{Problem, row_of};
 use span_text::lines;
 use tell_mend::{Word, find_word, word_of};
@@ -38,7 +39,7 @@ fn way_by_line(line: &[u8]) -> &'static [u8] {
     }
 }
 
-impl Telling<'_> {
+impl<T: Tableau> Telling<'_, T> {
     // The way out of the conflict, by the lines that its rows are from.
     fn way_out(&self) -> &'static [u8] {
         let mut way = ALONE;

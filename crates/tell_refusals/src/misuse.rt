@@ -1,5 +1,6 @@
 // Where a cause shows that depends on a session's names, or on a limit of lines.
 use crate::telling::Telling;
+use corner_view::Tableau;
 use edge_io::LINE_LIMIT;
 use name_tables::NAME_LIMIT;
 use problem_core::REQUIRED;
@@ -9,7 +10,7 @@ use tell_finding::{cause_place, long_place, own_place};
 use tell_mend::{cut, ends_in_word};
 
 // Whether `rest` begins with a view's name without an attribute.
-fn is_bare_view(session: &Session, front: &[u8], rest: &[u8]) -> bool {
+fn is_bare_view<T: Tableau>(session: &Session<T>, front: &[u8], rest: &[u8]) -> bool {
     let (word, after) = cut(rest, word_len(rest));
     let is_whole = !ends_in_word(front) && !front.ends_with(b".") && !after.starts_with(b".");
     let name = std::str::from_utf8(word).unwrap_or("");
@@ -17,7 +18,7 @@ fn is_bare_view(session: &Session, front: &[u8], rest: &[u8]) -> bool {
 }
 
 // Where a view is in place of a number, outside a view's brackets.
-fn object_place(session: &Session, line: &[u8]) -> Option<usize> {
+fn object_place<T: Tableau>(session: &Session<T>, line: &[u8]) -> Option<usize> {
     let start = own_place(line);
     let mut is_inside = false;
     for (place, b) in line.iter().enumerate() {
@@ -31,7 +32,7 @@ fn object_place(session: &Session, line: &[u8]) -> Option<usize> {
 }
 
 // Whether the text begins with a priority: a number, or a metric's name.
-fn begins_with_rank(session: &Session, text: &[u8]) -> bool {
+fn begins_with_rank<T: Tableau>(session: &Session<T>, text: &[u8]) -> bool {
     let (word, after) = cut(text, word_len(text));
     let word = std::str::from_utf8(word).unwrap_or("");
     let number = match (word.parse::<i64>(), session.state().metrics().get(word)) {
@@ -43,7 +44,7 @@ fn begins_with_rank(session: &Session, text: &[u8]) -> bool {
 }
 
 // Where an `@` is that no priority follows.
-fn priority_place(session: &Session, line: &[u8]) -> Option<usize> {
+fn priority_place<T: Tableau>(session: &Session<T>, line: &[u8]) -> Option<usize> {
     for (place, b) in line.iter().enumerate() {
         let (_, after) = cut(line, place.saturating_add(1));
         if *b == b'@' && !begins_with_rank(session, after.trim_ascii_start()) {
@@ -53,7 +54,7 @@ fn priority_place(session: &Session, line: &[u8]) -> Option<usize> {
     None
 }
 
-impl Telling<'_> {
+impl<T: Tableau> Telling<'_, T> {
     /// Where a cause shows, by the words that name it in the reply and by its mark.
     pub(crate) fn cause_place(&self, words: &str, mark: &str) -> usize {
         let found = match words {

@@ -1,5 +1,6 @@
 // The explanation of a name that is taken.
 use crate::telling::Telling;
+use corner_view::Tableau;
 use session_undo::Session;
 use span_text::lines;
 use tell_finding::taken_place;
@@ -9,7 +10,7 @@ const TWICE: &[u8] =
     b"this tree has the name twice; names are one space, whatever the views are in";
 
 /// The kind of thing that has the name; empty if none has.
-pub(crate) fn holder_of(session: &Session, name: &str) -> &'static str {
+pub(crate) fn holder_of<T: Tableau>(session: &Session<T>, name: &str) -> &'static str {
     if session.state().tree().find(name).is_some() {
         "a view"
     } else if session.state().metrics().get(name).is_some() {
@@ -19,7 +20,7 @@ pub(crate) fn holder_of(session: &Session, name: &str) -> &'static str {
     }
 }
 
-impl Telling<'_> {
+impl<T: Tableau> Telling<'_, T> {
     // Says which view has the name: that of the last accepted line for such a view, or the window.
     fn set_view_line(&mut self, name: &[u8]) {
         let (mut number, mut found): (usize, usize) = (0, 0);

@@ -1,5 +1,6 @@
 // The attributes that `diagnose` found ambiguous, and lines that pin them.
 use crate::telling::Telling;
+use corner_view::Tableau;
 use frac_core::{Frac, Wide};
 use serde_json::Value;
 use session_undo::Session;
@@ -8,7 +9,7 @@ use tell_finding::{Finding, put_pin};
 use tell_mend::Reader;
 
 // The present value of an attribute; none if there is no such attribute.
-fn value_of(session: &Session, attr: &str) -> Option<Frac> {
+fn value_of<T: Tableau>(session: &Session<T>, attr: &str) -> Option<Frac> {
     let (name, word) = attr.split_once('.')?;
     let view = session.state().tree().find(name)?;
     let [left, top, width, height] = session.frame(view)?;
@@ -22,7 +23,12 @@ fn value_of(session: &Session, attr: &str) -> Option<Frac> {
 }
 
 // The object of an ambiguous attribute.
-fn item_of(reader: &mut Reader, session: &Session, attr: &str, reach: &str) -> Finding {
+fn item_of<T: Tableau>(
+    reader: &mut Reader,
+    session: &Session<T>,
+    attr: &str,
+    reach: &str,
+) -> Finding {
     let mut item = Finding::new(reader.alloc());
     let mut text = Vec::new(reader.alloc());
     let value = value_of(session, attr).unwrap_or(Frac::zero());
@@ -37,7 +43,7 @@ fn item_of(reader: &mut Reader, session: &Session, attr: &str, reach: &str) -> F
     item
 }
 
-impl Telling<'_> {
+impl<T: Tableau> Telling<'_, T> {
     // Appends the object of the attribute in a reply's line `ambiguous ATTRIBUTE VALUE`.
     fn push_open(&mut self, items: &mut Vec<Value>, line: &[u8]) {
         let line = std::str::from_utf8(line).unwrap_or("");

@@ -1,6 +1,7 @@
 // The problem of a line that is refused because a number is too large or the budget is used up, with its
 // path.
 use claim_writing::{problem_text, rows_text};
+use corner_view::Tableau;
 use frac_core::{Frac, Stop};
 use problem_core::{Problem, Row, Stay, row_of};
 use reply_texts::reply_text;
@@ -21,7 +22,11 @@ fn posed_command(reading: Reading) -> Command {
 }
 
 /// The problem that a line would solve, or its refusal before anything is solved.
-pub(crate) fn posed(alloc: Global, session: &Session, line: &[u8]) -> Result<Problem, Refusal> {
+pub(crate) fn posed<T: Tableau>(
+    alloc: Global,
+    session: &Session<T>,
+    line: &[u8],
+) -> Result<Problem, Refusal> {
     match read_line_in(alloc, line, session.version()) {
         Ok(reading) => {
             let command = posed_command(reading);
@@ -35,7 +40,12 @@ pub(crate) fn posed(alloc: Global, session: &Session, line: &[u8]) -> Result<Pro
 }
 
 /// Appends the reply to a line that is refused before anything is solved; nothing for other lines.
-pub(crate) fn put_early(reader: &mut Reader, session: &Session, line: &[u8], out: &mut Vec<u8>) {
+pub(crate) fn put_early<T: Tableau>(
+    reader: &mut Reader,
+    session: &Session<T>,
+    line: &[u8],
+    out: &mut Vec<u8>,
+) {
     match posed(reader.alloc(), session, line) {
         Ok(problem) => drop(problem),
         Err(refusal) => {
@@ -114,10 +124,10 @@ fn reason(reply: &[u8]) -> &'static [u8] {
 
 /// Appends the problem of a refused line with this reply and its path, in the form that `layout check` reads,
 /// or why there is none. Says whether there is one.
-pub fn put_problem(
+pub fn put_problem<T: Tableau>(
     reader: &mut Reader,
     out: &mut Vec<u8>,
-    session: &Session,
+    session: &Session<T>,
     line: &[u8],
     reply: &[u8],
 ) -> bool {

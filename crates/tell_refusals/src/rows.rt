@@ -1,5 +1,6 @@
 // Rows as relations, and the lines that they are from.
 use crate::telling::Telling;
+use corner_view::Tableau;
 use frac_core::Wide;
 use problem_core::{REQUIRED, Row, Term, row_of};
 use reply_texts::push_attr;
@@ -18,7 +19,7 @@ fn sign_of(term: &Term, is_first: bool) -> &'static [u8] {
 }
 
 // Appends a term.
-fn put_term(reader: &mut Reader, out: &mut Vec<u8>, session: &Session, term: &Term) {
+fn put_term<T: Tableau>(reader: &mut Reader, out: &mut Vec<u8>, session: &Session<T>, term: &Term) {
     let by = term.by.saturating_abs();
     if by != 1 {
         reader.put_number(out, by);
@@ -28,7 +29,12 @@ fn put_term(reader: &mut Reader, out: &mut Vec<u8>, session: &Session, term: &Te
 }
 
 // Appends the sum of terms.
-fn put_terms(reader: &mut Reader, out: &mut Vec<u8>, session: &Session, terms: &[Term]) {
+fn put_terms<T: Tableau>(
+    reader: &mut Reader,
+    out: &mut Vec<u8>,
+    session: &Session<T>,
+    terms: &[Term],
+) {
     for (place, term) in terms.iter().enumerate() {
         reader.put(out, sign_of(term, place == 0));
         put_term(reader, out, session, term);
@@ -51,7 +57,7 @@ fn put_weight(reader: &mut Reader, out: &mut Vec<u8>, row: &Row) {
 }
 
 // Appends a row as a relation.
-fn put_row(reader: &mut Reader, out: &mut Vec<u8>, session: &Session, row: &Row) {
+fn put_row<T: Tableau>(reader: &mut Reader, out: &mut Vec<u8>, session: &Session<T>, row: &Row) {
     put_terms(reader, out, session, row.terms());
     reader.put_all(out, &[b" ", row.rel().word().as_bytes(), b" "]);
     reader.put_frac(out, Wide::from(row.constant()));
@@ -59,7 +65,7 @@ fn put_row(reader: &mut Reader, out: &mut Vec<u8>, session: &Session, row: &Row)
 }
 
 // Whether the session has the row with another constant.
-fn is_moved(session: &Session, row: &Row) -> bool {
+fn is_moved<T: Tableau>(session: &Session<T>, row: &Row) -> bool {
     let engine = session.engine();
     engine.show_layout(); // for the proof: its rows have rising numbers
     match row_of(engine.rows(), row.id()) {
@@ -79,7 +85,7 @@ pub(crate) struct Source {
     pub is_bound: bool,
 }
 
-impl Telling<'_> {
+impl<T: Tableau> Telling<'_, T> {
     /// The line that the row of this number is from.
     pub(crate) fn source_of(&self, id: u32) -> Source {
         let owner = self.owners.of(id);

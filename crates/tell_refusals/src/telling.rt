@@ -2,6 +2,7 @@
 use crate::limits::put_why;
 use crate::owners::Owners;
 use crate::problem::{is_own, put_early};
+use corner_view::Tableau;
 use frac_core::OutOfMemory;
 use session_undo::Session;
 use std::alloc::Global;
@@ -15,10 +16,10 @@ const SUGGESTED: &[u8] = b"its priority is the first one's; `release` it first f
 /// A line of a script with its reply, the session that answered it, the lines that rows are from, and the
 /// finding, which has no members yet.
 #[derive(Drop)]
-pub struct Telling<'a> {
+pub struct Telling<'a, T: Tableau> {
     pub reader: Reader,
     pub finding: Finding,
-    pub session: &'a Session,
+    pub session: &'a Session<T>,
     pub owners: &'a Owners,
     pub script: &'a [u8],
     /// The line's number, counted from 1.
@@ -38,7 +39,7 @@ fn cause_words(head: &str) -> &str {
     std::str::from_utf8(words).unwrap_or("")
 }
 
-impl<'a> Telling<'a> {
+impl<'a, T: Tableau> Telling<'a, T> {
     // The allocator of texts.
     pub(crate) fn alloc(&self) -> Global {
         self.reader.alloc()

@@ -1,6 +1,7 @@
 // The explanation of an unknown name.
 use crate::names::holder_of;
 use crate::telling::Telling;
+use corner_view::Tableau;
 use session_undo::Session;
 use span_text::lines;
 use tell_finding::unknown_place;
@@ -26,7 +27,7 @@ struct Lost<'a> {
 }
 
 // Takes the names of views.
-fn take_views<'a>(reader: &mut Reader, near: &mut Near<'a>, session: &'a Session) {
+fn take_views<'a, T: Tableau>(reader: &mut Reader, near: &mut Near<'a>, session: &'a Session<T>) {
     let tree = session.state().tree();
     for place in 0..tree.len() {
         if let Some(view) = tree.at(place) {
@@ -36,7 +37,7 @@ fn take_views<'a>(reader: &mut Reader, near: &mut Near<'a>, session: &'a Session
 }
 
 // Takes the names of metrics.
-fn take_metrics<'a>(reader: &mut Reader, near: &mut Near<'a>, session: &'a Session) {
+fn take_metrics<'a, T: Tableau>(reader: &mut Reader, near: &mut Near<'a>, session: &'a Session<T>) {
     let metrics = session.state().metrics();
     for place in 0..metrics.len() {
         if let Some(metric) = metrics.at(place) {
@@ -46,7 +47,12 @@ fn take_metrics<'a>(reader: &mut Reader, near: &mut Near<'a>, session: &'a Sessi
 }
 
 // Takes the names of groups that have rows.
-fn take_groups<'a>(reader: &mut Reader, near: &mut Near<'a>, session: &Session, script: &'a [u8]) {
+fn take_groups<'a, T: Tableau>(
+    reader: &mut Reader,
+    near: &mut Near<'a>,
+    session: &Session<T>,
+    script: &'a [u8],
+) {
     for line in lines(script) {
         let group = group_of(line.bytes);
         if !group.is_empty() && session.state().has_group(group) {
@@ -55,7 +61,7 @@ fn take_groups<'a>(reader: &mut Reader, near: &mut Near<'a>, session: &Session, 
     }
 }
 
-impl<'a> Telling<'a> {
+impl<'a, T: Tableau> Telling<'a, T> {
     // The most similar name of the kind wanted; empty if none is similar.
     fn nearest(&mut self, lost: Lost<'a>) -> &'a str {
         let mut near = Near::new(lost.name);

@@ -1,9 +1,10 @@
 // What a session answers to lines, as text.
+use crate::session::Session;
 use crate::tested::push_reply;
 use cert_core::Path;
 use frac_core::OutOfMemory;
 use script_text::{Reading, read_line_in};
-use session_undo::{Refusal, Reply, Session, StopPlace};
+use session_undo::{Refusal, Reply, StopPlace};
 use std::alloc::Global;
 use test_runs::{Answer, Kind};
 use test_text::put_shown;

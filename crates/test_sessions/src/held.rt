@@ -1,8 +1,8 @@
 // What a session holds, as text: its rows, and its stays at the present values, to which no reply sets them.
+use crate::session::Session;
 use claim_writing::rows_text;
 use frac_core::{Frac, OutOfMemory};
 use problem_core::{Row, Stay};
-use session_undo::Session;
 use std::alloc::Global;
 
 fn rows_of(session: &Session) -> &[Row] {

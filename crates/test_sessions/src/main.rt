@@ -20,6 +20,7 @@ mod answers;
 mod cases;
 mod held;
 mod problems;
+mod session;
 mod tested;
 
 use crate::cases::printed;

@@ -1,10 +1,11 @@
 // The problems that lines would solve, as text.
+use crate::session::Session;
 use crate::tested::push_reply;
 use claim_writing::problem_text;
 use frac_core::OutOfMemory;
 use problem_core::Problem;
 use script_text::{Command, Plain, Reading, read_line_in};
-use session_undo::{Refusal, Session};
+use session_undo::Refusal;
 use std::alloc::Global;
 use test_runs::{Answer, Kind};
 

@@ -4,12 +4,13 @@
 use crate::answers::answer;
 use crate::held::push_held;
 use crate::problems::problem;
+use crate::session::Session;
 use claim_check::check_claim;
 use edge_io::{MemorySink, Sink, Source};
 use frac_core::OutOfMemory;
 use reply_texts::{print_frames, reply_text};
 use script_text::Version;
-use session_undo::{Refusal, Reply, Session};
+use session_undo::{Refusal, Reply};
 use std::alloc::Global;
 use test_runs::{Answer, Checker, Talk};
 

@@ -5,7 +5,7 @@ use Rattle.problem_core.specs.Layout.{Row, line_of_row, lines, stay_lines, Probl
 use Rattle.corner_table.specs.Tables.{Lists, problem_of, line_slot, row_at, standing_at, slot_at, lists_of}
 use Rattle.corner_table.specs.Tables.{marks_at}
 use Rattle.corner_joins.proofs.Costs.CostLines.{row_among}
-use Rattle.corner_table.proofs.Readings.MarkingFacts.{append_more}
+use Rattle.corner_view.proofs.Facts.{append_more}
 use Rattle.version_lists.proofs.Indexing.{number_at_column}
 use Rattle.problem_core.specs.declared.parts.RowName.TheVariants.{Held}
 use Rattle.corner_table.specs.Kept.{IsKept, IsLineSlot, IsSlot}
@@ -25,7 +25,7 @@ use Rattle.problem_core.specs.Corners.{IsIn, place}
 use Rattle.problem_core.specs.Unfit.{over_mark}
 use Rattle.corner_laws.proofs.WrittenValues.{contains_each}
 use Rattle.corner_table.specs.Invariants.{names_of, name_of, IsConsistent, IsEarlier, seen_of, view_of}
-use Rattle.corner.specs.Views.{IsNamed}
+use Rattle.corner_view.specs.Seen.{IsNamed}
 use Rattle.std.proofs.lemmas.List.{get_or_append_left}
 use Rattle.problem_core.specs.declared.parts.Stay.{Stay}
 use Rattle.problem_core.specs.declared.parts.RowName.{RowName}
@@ -43,7 +43,7 @@ use Rattle.frac_core.proofs.Lists.{each-at as contained, each-of as each-contain
 use Rattle.corner_joins.proofs.Additions.AddedRows.{begins_one_in}
 use Rattle.cert_core.specs.declared.stops.RunStop.{RunStop}
 use Rattle.cert_core.specs.declared.stops.RunStop.TheVariants.{Conflict, Unfit, Spent, OutOfMemory}
-use Rattle.corner_joins.specs.Stops.{AllSumsFit, IsAddStop}
+use Rattle.corner_view.specs.AddStops.{AllSumsFit, IsAddStop}
 
 split-at : (xs : List Row) (i : ℕ) (x : Row) → i < length xs → (before : List Row) × (after : List Row) × (xs ≡ before ++ (get_or xs i x ∷ after))
 split-at [] i x lt = absurd (omega (arith, lt))

@@ -28,7 +28,7 @@ use Rattle.corner_lines.proofs.Lines.LineSums.{both-cancel}
 use Rattle.corner_table.specs.Tables.{Lists, entry, line_slot, marks_at, number, problem_of, slot_at, standing_at}
 use Rattle.corner_table.specs.Kept.{IsEquationAt, IsLineRow}
 use Rattle.corner_joins.specs.Additions.Parts.{IsPartlyKept}
-use Rattle.corner.specs.Views.{AreCandidates, IsNamed}
+use Rattle.corner_view.specs.Seen.{AreCandidates, IsNamed}
 use Rattle.corner_table.specs.Invariants.{name_of, names_of}
 use Rattle.corner_table.specs.Reads.LevelNumbers.{side_share}
 use Rattle.corner_joins.specs.Additions.JoinedLists.{AreRowsListed, IsFreeRow, IsRowListed}
@@ -38,7 +38,8 @@ use Rattle.corner_lines.proofs.LevelRows.OtherNumbers.{other-number}
 use Rattle.corner_exchange.proofs.Swaps.ColumnReturns.{free-side, inside_not_negative, negative-line, returned, unmoved-column}
 use Rattle.corner_table.proofs.Basics.ListFacts.{from_map, to_map}
 use Rattle.corner_table.proofs.Readings.MarkFacts.{inside_stands}
-use Rattle.corner_table.proofs.Readings.ReadFacts.{is_some, mark_named}
+use Rattle.corner_table.proofs.Readings.ReadFacts.{is_some}
+use Rattle.corner_view.proofs.Facts.{mark_named}
 use Rattle.corner_table.proofs.Readings.SlotFacts.{any_impl, any_is}
 use Rattle.corner_table.proofs.Readings.WritingFacts.{lines_apart}
 use Rattle.frac_core.proofs.Numbers.{no-product as times-none, zero-parts as still-none, signed-not-zero as not_zero}

@@ -11,8 +11,8 @@ use Rattle.corner_table.specs.declared.table.TheConstants.{LEVELS}
 use Rattle.corner_table.specs.Tables.{Lists, marks_at, problem_of}
 use Rattle.corner_table.specs.Kept.{HasSlotsLeft, taken_slots}
 use Rattle.corner_table.specs.Invariants.{order_of, seen_of}
-use Rattle.corner.specs.Views.{CornerView}
-use Rattle.corner_joins.specs.Stops.{AllSumsFit, IsAddStop}
+use Rattle.corner_view.specs.Seen.{CornerView}
+use Rattle.corner_view.specs.AddStops.{AllSumsFit, IsAddStop}
 use Rattle.corner_joins.specs.Additions.CostJoins.{AreAllJoined}
 
 pub packed_left : (t : Lists) → length t.slots ≤ LEVELS + taken_slots t → HasSlotsLeft t

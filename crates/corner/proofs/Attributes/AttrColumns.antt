@@ -14,7 +14,7 @@ use Rattle.problem_core.specs.Certificates.{Multipliers}
 use Rattle.problem_core.specs.Corners.{AreMultipliersAt, HasNegativeColumn, IsIn, IsLexNegative, column, marks_of, place, place_of}
 use Rattle.corner_lines.specs.Joins.{with_attr}
 use Rattle.corner_leaving.proofs.Attributes.DroppedAttrLevels.{absent, one_time}
-use Rattle.corner.specs.Views.{IsMarkOf}
+use Rattle.corner_view.specs.Seen.{IsMarkOf}
 use Rattle.corner_joins.proofs.Attributes.AttrJoins.{lines_more, new_line}
 use Rattle.corner_table.proofs.Basics.SmallFacts.{own_stay}
 use Rattle.corner_joins.proofs.Attributes.AttrLevels.{each_old, sum_push}

@@ -11,12 +11,12 @@ use Rattle.problem_core.specs.declared.parts.RowName.{RowName}
 use Rattle.problem_core.specs.Layout.{HasStay, Problem, Row}
 use Rattle.problem_core.specs.Kept.{IsNumber}
 use Rattle.corner_lines.specs.Joins.{with_attr}
-use Rattle.corner_table.specs.declared.table.Owner.TheVariants.{Level as LevelSlot}
+use Rattle.corner_view.specs.declared.types.Owner.TheVariants.{Level as LevelSlot}
 use Rattle.corner_table.specs.declared.table.Priority.{Priority}
 use Rattle.corner_table.specs.declared.table.Slot.{Slot}
 use Rattle.corner_table.specs.declared.table.Standing.{Standing}
 use Rattle.corner_table.specs.declared.table.Table.{Table}
-use Rattle.corner.specs.Views.{AreCandidates, IsNamed}
+use Rattle.corner_view.specs.Seen.{AreCandidates, IsNamed}
 use Rattle.corner_table.specs.Tables.{Lists, lists_of, marks_at, problem_of, scene_at, slot_at}
 use Rattle.corner_table.specs.Kept.{IsKept}
 use Rattle.corner_table.specs.Histories.{AreAlike, HasSameHistory, lists_before, side_by_side}

@@ -5,7 +5,7 @@ use Rattle.std.proofs.lemmas.List.Elements.{All-from_recursion, recursion_from_A
 use Rattle.corner_table.specs.declared.table.Table.{Table}
 use Rattle.corner.specs.declared.known.Known.{Known}
 use Rattle.corner.specs.Known.{AreKnown}
-use Rattle.corner.specs.Views.{AreCandidates, IsNamed}
+use Rattle.corner_view.specs.Seen.{AreCandidates, IsNamed}
 use Rattle.corner_table.specs.Tables.{Lists, lists_of, marks_at, problem_of, scene_at}
 use Rattle.corner_table.specs.Kept.{IsKept, IsSlot}
 use Rattle.corner_table.specs.Histories.{AreAlike, lists_before}

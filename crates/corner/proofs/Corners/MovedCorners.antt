@@ -8,12 +8,14 @@ use Rattle.corner_table.specs.declared.table.Table.{Table}
 use Rattle.corner_table.specs.Histories.{AreAlike, lists_before}
 use Rattle.corner_table.specs.Invariants.{IsEarlier}
 use Rattle.corner_table.specs.Kept.{IsKept}
-use Rattle.corner_table.specs.Moves.{AreMoved, AreMovedSince, HasValue, HasValueIn, Shows, marked_of}
+use Rattle.corner_view.specs.Moves.{AreMoved, AreMovedSince, HasValueIn, Shows}
+use Rattle.corner_table.specs.Moves.{HasValue, marked_of}
 use Rattle.corner_table.specs.Tables.{Lists, attr_slot, lists_of, marks_at, problem_of, scene_at, standing_at}
-use Rattle.corner_table.specs.Views.{HasValueAt}
+use Rattle.corner_view.specs.Seen.{HasValueAt}
 use Rattle.corner_table.proofs.Corners.HistoryFacts.{sided}
 use Rattle.frac_core.proofs.Lists.{length-mapped as map_length}
-use Rattle.corner_table.proofs.Readings.MoveFacts.{first_before, moved_by, slot_of}
+use Rattle.corner_table.proofs.Readings.MoveFacts.{first_before, slot_of}
+use Rattle.corner_view.proofs.Facts.{moved_by}
 use Rattle.corner_table.proofs.Readings.ReadFacts.{value_attr}
 
 -- what the lists show is so at their corner

@@ -2,22 +2,19 @@
 use Rattle.std.proofs.Common.{◌≡◌, ◌∙◌, ◌≤◌, List, [], map, filter, drop, length, ap, ap₂, arith}
 use Rattle.std.proofs.Math.ListN.{drop_of_length-le}
 use Rattle.problem_core.specs.declared.parts.Mark.{Mark}
-use Rattle.problem_core.specs.declared.parts.Stay.{Stay}
 use Rattle.problem_core.specs.Layout.{Problem, Row, lines}
 use Rattle.problem_core.specs.declared.parts.RowName.{RowName}
 use Rattle.problem_core.specs.Corners.{marks_of}
-use Rattle.corner_table.specs.declared.table.Owner.{Owner}
+use Rattle.corner_view.specs.declared.types.Owner.{Owner}
 use Rattle.corner_table.specs.declared.table.Slot.{Slot}
 use Rattle.corner_table.specs.declared.table.TheConstants.{LEVELS}
 use Rattle.corner_table.specs.declared.table.Table.{Table}
-use Rattle.corner.specs.Views.{CornerView, Scene}
+use Rattle.corner_view.specs.Seen.{CornerView, Scene}
 use Rattle.corner_table.specs.Tables.{Lists, lists_of, marks_at, problem_of, scene_at, stands_in}
 use Rattle.corner_table.specs.Histories.{lists_before, side_by_side}
 use Rattle.corner_table.specs.Invariants.{view_of}
 use Rattle.corner_table.specs.Joining.{HasNoPast}
-
-abbrev pub made_problem : List Row → List Stay → Problem
-made_problem rows stays = record { rows = rows; stays = stays }
+use Rattle.corner_view.proofs.Facts.{made_problem}
 
 no_problem : (t : Lists) → t.rows ≡ [] → t.stays ≡ [] → problem_of t ≡ made_problem [] []
 no_problem t rows stays = ap₂ made_problem rows stays

@@ -27,7 +27,7 @@ use Rattle.corner_exchange.specs.declared.exchange.Exchange.{Exchange}
 use Rattle.corner_table.specs.declared.table.Slot.{Slot}
 use Rattle.corner_table.specs.Tables.{Lists, entry, line_slot, marks_at, number, problem_of, slot_at, standing_at}
 use Rattle.corner_table.specs.Kept.{AreSlots, IsEquationAt, IsKept}
-use Rattle.corner.specs.Views.{AreCandidates, IsNamed}
+use Rattle.corner_view.specs.Seen.{AreCandidates, IsNamed}
 use Rattle.corner_table.specs.Invariants.{name_of, names_of}
 use Rattle.corner_exchange.specs.Swaps.Exchanges.{AreListedAfter, IsExchangeOf, marks_after}
 use Rattle.corner_writings.specs.Rows.{row_number}

@@ -15,7 +15,7 @@ use Rattle.corner_exchange.specs.declared.exchange.Exchange.{Exchange}
 use Rattle.corner_table.specs.declared.table.Slot.{Slot}
 use Rattle.corner_table.specs.declared.table.Table.{Table}
 use Rattle.corner_table.specs.declared.table.TheConstants.{LEVELS}
-use Rattle.corner.specs.Views.{AreCandidates, IsNamed, IsOutside, MovesWith}
+use Rattle.corner_view.specs.Seen.{AreCandidates, IsNamed, IsOutside, MovesWith}
 use Rattle.corner_table.specs.Tables.{IsListedOf, Lists, entry, line_slot, lists_of, marks_at, problem_of, row_at, scene_at, slot_at, standing_at}
 use Rattle.corner_table.specs.Kept.{AreSlots, IsKept, IsSlot}
 use Rattle.corner_table.specs.Histories.{AreAlike, lists_before}
@@ -31,7 +31,8 @@ use Rattle.corner_exchange.specs.Swaps.TurnedLevels.{IsTurn}
 use Rattle.corner_table.proofs.Corners.HistoryFacts.{sided}
 use Rattle.corner.proofs.Attributes.CornerAttrs.{marked_rows}
 use Rattle.corner_table.proofs.Readings.MarkFacts.{inside_stands}
-use Rattle.corner_table.proofs.Readings.ReadFacts.{is_some, mark_named}
+use Rattle.corner_table.proofs.Readings.ReadFacts.{is_some}
+use Rattle.corner_view.proofs.Facts.{mark_named}
 use Rattle.corner_table.proofs.Basics.ListFacts.{all_from, from_map}
 use Rattle.corner_table.proofs.Readings.WritingFacts.{in_mark, lines_apart}
 use Rattle.corner_table.proofs.Readings.KeptFacts.{row_kept}

@@ -17,7 +17,7 @@ use Rattle.corner_table.specs.Tables.{Lists, lists_of, marks_at, problem_of}
 use Rattle.corner_table.specs.Kept.{IsKept}
 use Rattle.corner_table.specs.Histories.{AreAlike, lists_before}
 use Rattle.corner_table.specs.Invariants.{IsConsistent, names_of}
-use Rattle.corner_table.specs.Views.{AreCandidates}
+use Rattle.corner_view.specs.Seen.{AreCandidates}
 use Rattle.corner_table.proofs.Basics.ListFacts.{all_from}
 use Rattle.corner.proofs.Swaps.NextConsistent.{AreSeenAlike, exchanged_seen, next_consistent, turned_seen}
 use Rattle.corner_exchange.proofs.Swaps.ListedSlots.{CanBeListed, were_listed}

@@ -15,8 +15,8 @@ use Rattle.row_core.proofs.Places.{absent, at-elsewhere, at-here, coefficient_at
 use Rattle.problem_core.specs.declared.parts.RowName.{RowName}
 use Rattle.problem_core.specs.Layout.{Line, lines}
 use Rattle.corner_lines.specs.LineEquations.{AreReduced, IsUnfitLine}
-use Rattle.corner_table.specs.declared.table.Owner.{Owner}
-use Rattle.corner_table.specs.declared.table.Owner.TheVariants.{Level as LevelSlot, Attr as AttrSlot, Line as LineSlot}
+use Rattle.corner_view.specs.declared.types.Owner.{Owner}
+use Rattle.corner_view.specs.declared.types.Owner.TheVariants.{Level as LevelSlot, Attr as AttrSlot, Line as LineSlot}
 use Rattle.corner_table.specs.Tables.{Lists, line_slot, problem_of, slot_at}
 use Rattle.corner_table.specs.Kept.{AreSlots, IsLineSlot}
 use Rattle.corner_writings.specs.Rows.{row_number}

@@ -17,7 +17,7 @@ use Rattle.problem_core.specs.Rays.{HasRays}
 use Rattle.corner_laws.specs.Units.{IsLevelUnit}
 use Rattle.corner_lines.specs.Levels.LevelRows.{HasLevelRow}
 use Rattle.problem_core.specs.Levels.{HasNoLevelWriting, IsCostAt}
-use Rattle.corner_exchange.specs.Stops.{IsUnfitStop}
+use Rattle.corner_view.specs.Stops.{IsUnfitStop}
 use Rattle.corner_lines.specs.LineEquations.{deviation, sign_of}
 use Rattle.corner_lines.specs.Levels.LevelCosts.{HasDeviation}
 use Rattle.corner_lines.specs.Levels.LevelFits.{IsFittingRow}

@@ -22,7 +22,7 @@ use Rattle.corner_lines.proofs.Lines.LineCarried.{carried}
 use Rattle.corner_lines.proofs.Lines.LineExchanges.{resolved}
 use Rattle.corner_lines.proofs.Lines.LineUnfits.{line_sum, line_unfit, mark_unfit, reduced_line}
 use Rattle.corner_writings.specs.declared.levels.Pair.{Pair}
-use Rattle.corner_table.specs.Views.{IsNamed}
+use Rattle.corner_view.specs.Seen.{IsNamed}
 use Rattle.corner_table.specs.Tables.{Lists, entry, line_slot, marks_at, number, problem_of, standing_at}
 use Rattle.corner_table.specs.Kept.{IsKept}
 use Rattle.corner_exchange.specs.Swaps.Exchanges.{IsEntering, IsEquationBy, IsOutsideAfter, IsPair, marks_after, moved, signed, solved}

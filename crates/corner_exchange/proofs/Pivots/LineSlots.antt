@@ -25,18 +25,19 @@ use Rattle.corner_lines.specs.LineEquations.{IsLineEquation, deviation, sign_of}
 use Rattle.corner_lines.proofs.Lines.LineUnfits.{mark_has_none}
 use Rattle.corner_exchange.specs.declared.exchange.Pivot.{Pivot}
 use Rattle.corner_writings.specs.declared.levels.Pair.{Pair}
-use Rattle.corner_table.specs.declared.table.Owner.{Owner}
-use Rattle.corner_table.specs.declared.table.Owner.TheVariants.{Level as LevelSlot, Attr as AttrSlot, Line as LineSlot}
+use Rattle.corner_view.specs.declared.types.Owner.{Owner}
+use Rattle.corner_view.specs.declared.types.Owner.TheVariants.{Level as LevelSlot, Attr as AttrSlot, Line as LineSlot}
 use Rattle.corner_table.specs.declared.table.TheConstants.{LEVELS}
 use Rattle.corner_table.specs.Tables.{Lists, attr_slot, entry, line_slot, marks_at, number, problem_of, row_at, sign_of_what, slot_at, standing_at}
 use Rattle.corner_table.specs.Kept.{IsEquationAt, IsKept, IsLineRow, IsOwned, IsSlot, IsStayOwner}
-use Rattle.corner_table.specs.Views.{IsNamed}
+use Rattle.corner_view.specs.Seen.{IsNamed}
 use Rattle.corner_writings.proofs.Readings.FreeSlots.{not_free}
 use Rattle.corner_exchange.specs.Swaps.Exchanges.{AreOutsideAfter, IsChangeOf, IsEntering, IsEquationBy, IsOutsideAfter, IsOwnerRow, IsPair, IsWhatOf, IsWhatAt, marks_after, moved, moved_by, IsPivotAt, IsValueAfter, signed}
 use Rattle.corner_table.specs.Kept.{IsOutsideSlot}
 use Rattle.corner_writings.specs.Rows.{row_number}
 use Rattle.corner_table.proofs.Readings.SlotFacts.{any_is, named_slot}
-use Rattle.corner_table.proofs.Readings.MarkFacts.{same_mark, stands_inside}
+use Rattle.corner_view.proofs.Facts.{same_mark}
+use Rattle.corner_table.proofs.Readings.MarkFacts.{stands_inside}
 use Rattle.corner_table.proofs.Readings.ReadFacts.{attr_equation, inside_equation}
 use Rattle.corner_table.proofs.Basics.OwnerFacts.{line-owned}
 use Rattle.corner_exchange.proofs.Pivots.PairFacts.{named_mark, pair_exchange, pair_rays, side-stands}

@@ -18,7 +18,7 @@ use Rattle.corner_lines.specs.LineExchanges.{IsPivotRow}
 use Rattle.corner_lines.specs.Levels.StayLevels.{turned}
 use Rattle.corner_lines.proofs.Lines.LineMoves.{line_is_exchange}
 use Rattle.corner_writings.specs.declared.levels.Pair.{Pair}
-use Rattle.corner_table.specs.Views.{IsMarkOf, IsNamed}
+use Rattle.corner_view.specs.Seen.{IsMarkOf, IsNamed}
 use Rattle.corner_table.specs.Tables.{Lists, entry, is_side, line_slot, marks_at, number, problem_of, standing_at, stands_in}
 use Rattle.corner_table.specs.Kept.{IsEquationAt, IsKept}
 use Rattle.corner_exchange.specs.Swaps.Exchanges.{IsPair, marks_after, signed, solved}

@@ -14,11 +14,11 @@ use Rattle.std.proofs.lemmas.Int.{unsigned_abs-mul}
 use Rattle.frac_core.specs.declared.frac.TheConstants.{PART_BOUND}
 use Rattle.corner_lines.specs.LineEquations.{IsLineEquation, deviation, sign_of}
 use Rattle.corner_writings.specs.declared.levels.Pair.{Pair}
-use Rattle.corner_table.specs.declared.table.Owner.{Owner}
-use Rattle.corner_table.specs.declared.table.Owner.TheVariants.{Level as LevelSlot, Attr as AttrSlot, Line as LineSlot}
+use Rattle.corner_view.specs.declared.types.Owner.{Owner}
+use Rattle.corner_view.specs.declared.types.Owner.TheVariants.{Level as LevelSlot, Attr as AttrSlot, Line as LineSlot}
 use Rattle.corner_table.specs.Tables.{Lists, entry, marks_at, problem_of, slot_at, standing_at}
 use Rattle.corner_table.specs.Kept.{AreSlots, IsKept, IsStayOwner}
-use Rattle.corner_table.specs.Views.{IsNamed}
+use Rattle.corner_view.specs.Seen.{IsNamed}
 use Rattle.corner_exchange.specs.Swaps.Exchanges.{IsEntering, IsPair, marks_after, signed, solved}
 use Rattle.corner_table.proofs.Readings.SlotFacts.{named_slot}
 use Rattle.corner_exchange.proofs.Pivots.PairFacts.{leave_in, pair_exchange, pair_rays}

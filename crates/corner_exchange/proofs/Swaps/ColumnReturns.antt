@@ -24,10 +24,10 @@ use Rattle.corner_lines.specs.LineEquations.{sign_of}
 use Rattle.corner_lines.specs.Levels.StayLevels.{turned}
 use Rattle.corner_lines.proofs.LevelRows.LevelExchanges.{by-sides}
 use Rattle.corner_lines.proofs.Lines.LineSums.{both-cancel}
-use Rattle.corner_table.specs.Views.{AreCandidates, IsNamed}
+use Rattle.corner_view.specs.Seen.{AreCandidates, IsNamed}
 use Rattle.corner_exchange.proofs.Pivots.PairFacts.{turned-right, turned-twice, way_of}
 use Rattle.corner_table.specs.Reads.LevelNumbers.{side_share}
-use Rattle.corner_table.proofs.Readings.ReadFacts.{mark_named}
+use Rattle.corner_view.proofs.Facts.{mark_named}
 use Rattle.corner_lines.proofs.Lines.LineWritings.{all-small}
 use Rattle.frac_core.proofs.Numbers.{plus-zero as plus-none, low-times, signed-not-zero as not_zero, neg-times, mul-neg as mul-opp}
 use Rattle.problem_core.proofs.Marks.{same-multipliers as to-same, entered-in as enter_in, kept-in as kept_in}

@@ -20,12 +20,12 @@ use Rattle.corner_lines.proofs.Lines.LineExchanges.{line_stays}
 use Rattle.corner_exchange.specs.declared.exchange.Change.{Change}
 use Rattle.corner_exchange.specs.declared.exchange.Exchange.{Exchange}
 use Rattle.corner_writings.specs.declared.levels.Pair.{Pair}
-use Rattle.corner_table.specs.declared.table.Owner.{Owner}
-use Rattle.corner_table.specs.declared.table.Owner.TheVariants.{Level as LevelSlot, Attr as AttrSlot, Line as LineSlot}
+use Rattle.corner_view.specs.declared.types.Owner.{Owner}
+use Rattle.corner_view.specs.declared.types.Owner.TheVariants.{Level as LevelSlot, Attr as AttrSlot, Line as LineSlot}
 use Rattle.corner_table.specs.declared.table.Slot.{Slot}
 use Rattle.corner_table.specs.declared.table.Standing.{Standing}
 use Rattle.corner_table.specs.declared.table.TheConstants.{LEVELS}
-use Rattle.corner_table.specs.Views.{IsNamed}
+use Rattle.corner_view.specs.Seen.{IsNamed}
 use Rattle.corner_table.specs.Tables.{Lists, attr_slot, entry, line_slot, marks_at, number, problem_of, row_at, slot_at, standing_at}
 use Rattle.corner_table.specs.Kept.{AreSlots, AreStored, IsAttrSlot, IsEquationAt, IsKept, IsLineRow, IsSlot}
 use Rattle.corner_exchange.specs.Swaps.Exchanges.{IsChangeOf, IsEquationBy, IsExchangeOf, IsOwnerRow, IsPair, cleared, exchanged_lists, filled, marks_after, with_change, with_changes}

@@ -34,7 +34,7 @@ use Rattle.corner_exchange.specs.Swaps.Exchanges.{IsLevelBy, IsPair, IsUntouched
 use Rattle.corner_writings.specs.Rows.{row_number}
 use Rattle.corner_exchange.specs.Swaps.NextLists.{IsLevelNext, over}
 use Rattle.corner_table.proofs.Readings.SlotFacts.{any_is, named_slot}
-use Rattle.corner_table.proofs.Readings.MarkFacts.{same_mark}
+use Rattle.corner_view.proofs.Facts.{same_mark}
 use Rattle.corner_table.proofs.Readings.KeptFacts.{value_kept}
 use Rattle.corner_table.proofs.Readings.WritingFacts.{number_is}
 use Rattle.corner_writings.proofs.LevelFacts.LevelRowFacts.{out_line}

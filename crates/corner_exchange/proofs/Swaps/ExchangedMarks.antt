@@ -16,19 +16,20 @@ use Rattle.problem_core.specs.Layout.{HasStay, lines}
 use Rattle.problem_core.specs.Corners.{IsIn, SameMarks, Swap, marks_of, place}
 use Rattle.corner_laws.proofs.Exchanged.{exchanged_in}
 use Rattle.corner_exchange.specs.declared.exchange.Exchange.{Exchange}
-use Rattle.corner_table.specs.declared.table.Owner.{Owner}
-use Rattle.corner_table.specs.declared.table.Owner.TheVariants.{Line as LineSlot}
+use Rattle.corner_view.specs.declared.types.Owner.{Owner}
+use Rattle.corner_view.specs.declared.types.Owner.TheVariants.{Line as LineSlot}
 use Rattle.corner_table.specs.declared.table.Standing.{Standing}
 use Rattle.corner_table.specs.declared.table.TheConstants.{LEVELS}
-use Rattle.corner_table.specs.Views.{IsMarkOf, IsNamed}
+use Rattle.corner_view.specs.Seen.{IsMarkOf, IsNamed}
 use Rattle.corner_table.specs.Tables.{Lists, entry, line_slot, marks_at, problem_of, row_at, slot_at, standing_at, stands_in}
 use Rattle.corner_table.specs.Kept.{AreOutside, HasStayRoom, IsKept, IsSlot, IsStayOwner}
 use Rattle.corner_exchange.specs.Swaps.Exchanges.{IsOutsideAfter, marks_after}
 use Rattle.corner_table.specs.Kept.{IsOutsideSlot}
 use Rattle.corner_exchange.specs.Swaps.NextLists.{over}
 use Rattle.corner_table.proofs.Readings.SlotFacts.{named_slot}
-use Rattle.corner_table.proofs.Readings.MarkFacts.{inside_stands, same_mark, stands_inside}
-use Rattle.corner_table.proofs.Readings.ReadFacts.{is_some, mark_named}
+use Rattle.corner_table.proofs.Readings.MarkFacts.{inside_stands, stands_inside}
+use Rattle.corner_view.proofs.Facts.{mark_named, same_mark}
+use Rattle.corner_table.proofs.Readings.ReadFacts.{is_some}
 use Rattle.corner_table.proofs.Basics.ListFacts.{all_from, to_map}
 use Rattle.corner_table.proofs.Readings.WritingFacts.{line_owner, lines_apart}
 use Rattle.corner_exchange.proofs.Pivots.PairFacts.{leave_in, pair_exchange, side-stands}

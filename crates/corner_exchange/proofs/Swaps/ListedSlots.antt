@@ -9,7 +9,7 @@ use Rattle.problem_core.specs.Layout.{Line, Problem, Row, line_of_row, stay_line
 use Rattle.corner_table.specs.Invariants.{name_of, names_of}
 use Rattle.corner_table.specs.Kept.{AreSlots, IsSlot}
 use Rattle.corner_table.specs.Tables.{Lists, problem_of, slot_at}
-use Rattle.corner_table.specs.Views.{IsNamed}
+use Rattle.corner_view.specs.Seen.{IsNamed}
 use Rattle.corner_table.proofs.Basics.ListFacts.{to_map}
 use Rattle.corner_writings.proofs.Readings.FreeSlots.{line_named}
 use Rattle.corner_table.specs.Kept.{IsOutsideSlot}

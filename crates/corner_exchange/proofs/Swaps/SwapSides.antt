@@ -13,7 +13,7 @@ use Rattle.corner_lines.proofs.LevelRows.LevelExchanges.{by-sides}
 use Rattle.corner_writings.specs.declared.levels.Pair.{Pair}
 use Rattle.corner_table.specs.Tables.{Lists, line_slot, marks_at, problem_of, standing_at}
 use Rattle.corner_table.specs.Kept.{IsKept}
-use Rattle.corner_table.specs.Views.{IsNamed}
+use Rattle.corner_view.specs.Seen.{IsNamed}
 use Rattle.corner_exchange.specs.Swaps.Exchanges.{IsPair, marks_after}
 use Rattle.corner_writings.specs.Fitting.{AreSidesAfter, side_after}
 use Rattle.corner_exchange.specs.Swaps.TurnedLevels.{IsTurn}

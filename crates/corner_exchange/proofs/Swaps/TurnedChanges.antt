@@ -25,7 +25,7 @@ use Rattle.corner_table.specs.declared.table.TheConstants.{LEVELS}
 use Rattle.corner_table.specs.Tables.{Lists, entry, priority_at, problem_of, row_at, slot_at, standing_at}
 use Rattle.corner_table.specs.Kept.{IsKept, level_own}
 use Rattle.corner_table.specs.Reads.LevelNumbers.{IsSlotOfLine}
-use Rattle.corner_exchange.specs.Stops.{IsUnfitStop}
+use Rattle.corner_view.specs.Stops.{IsUnfitStop}
 use Rattle.corner_exchange.specs.Swaps.Exchanges.{IsLevelBy, marks_after}
 use Rattle.corner_table.specs.Kept.{IsOutsideSlot}
 use Rattle.corner_writings.specs.Rows.{row_number}

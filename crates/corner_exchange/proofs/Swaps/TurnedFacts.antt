@@ -33,7 +33,7 @@ use Rattle.corner_lines.proofs.Lines.LineWritings.{line_value}
 use Rattle.corner_exchange.specs.declared.exchange.Change.{Change}
 use Rattle.corner_table.specs.declared.table.Standing.{Standing}
 use Rattle.corner_table.specs.declared.table.TheConstants.{LEVELS}
-use Rattle.corner_table.specs.Views.{IsMarkOf, IsNamed}
+use Rattle.corner_view.specs.Seen.{IsMarkOf, IsNamed}
 use Rattle.corner_table.specs.Tables.{Lists, attr_slot, entry, line_slot, marks_at, number, priority_at, problem_of, row_at, slot_at, standing_at, stands_in}
 use Rattle.corner_table.specs.Kept.{AreOutside, AreSlots, HasStayRoom, IsAttrSlot, IsEquationAt, IsKept, IsLineRow, IsSlot, home_of, row_count}
 use Rattle.corner_exchange.specs.Swaps.Exchanges.{AreChangesIn, IsEquationBy, IsLevelBy, marks_after, opposite, turned_line, turned_lists, with_changes}
@@ -48,8 +48,9 @@ use Rattle.corner_table.proofs.Basics.SmallFacts.{below_or}
 use Rattle.corner_table.proofs.Readings.KeptFacts.{value_kept}
 use Rattle.corner_exchange.proofs.Basics.Opposites.{opposite_fits, opposite_lowest}
 use Rattle.corner_writings.proofs.LevelFacts.LevelNumberFacts.{AreLevelsOf, IsKnown, all-known, named_line}
-use Rattle.corner_table.proofs.Readings.MarkFacts.{inside_stands, same_mark, stands_inside}
-use Rattle.corner_table.proofs.Readings.ReadFacts.{attr_equation, is_some, mark_named}
+use Rattle.corner_table.proofs.Readings.MarkFacts.{inside_stands, stands_inside}
+use Rattle.corner_view.proofs.Facts.{mark_named, same_mark}
+use Rattle.corner_table.proofs.Readings.ReadFacts.{attr_equation, is_some}
 use Rattle.corner_table.proofs.Readings.WritingFacts.{attr_apart, lines_apart, number_is}
 use Rattle.corner_exchange.proofs.Pivots.PairFacts.{eqb-same, side-stands}
 use Rattle.corner_exchange.proofs.Swaps.PutFacts.{standing_slots}

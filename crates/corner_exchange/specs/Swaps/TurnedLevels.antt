@@ -14,7 +14,7 @@ use Rattle.corner_laws.specs.Runs.{other_side}
 use Rattle.corner_lines.specs.LineEquations.{sign_of}
 use Rattle.corner_exchange.specs.declared.exchange.Change.{Change}
 use Rattle.corner_table.specs.declared.table.TheConstants.{LEVELS}
-use Rattle.corner_exchange.specs.Stops.{IsUnfitStop}
+use Rattle.corner_view.specs.Stops.{IsUnfitStop}
 use Rattle.corner_exchange.specs.Swaps.Exchanges.{IsLevelBy, marks_after}
 use Rattle.corner_table.specs.Kept.{IsOutsideSlot}
 use Rattle.corner_table.specs.Kept.{IsKept, level_own}
@@ -22,7 +22,7 @@ use Rattle.corner_exchange.specs.Swaps.LevelChanges.{IsStopOf}
 use Rattle.corner_table.specs.Reads.LevelNumbers.{count_of}
 use Rattle.corner_table.specs.Tables.{Lists, entry, line_slot, priority_at, problem_of, row_at, slot_at}
 use Rattle.corner_table.specs.Tables.{standing_at}
-use Rattle.corner_table.specs.Views.{IsNamed}
+use Rattle.corner_view.specs.Seen.{IsNamed}
 
 -- the slot of a line whose mark of this side enters, and whose other one, which is inside, leaves
 pub record IsTurn (t : Lists) (line : ℕ) (side : Side) (s : Swap) : Type 0 where

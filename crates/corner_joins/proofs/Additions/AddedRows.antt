@@ -18,8 +18,8 @@ use Rattle.corner_laws.specs.Lifts.{HasOneIn, with_rows}
 use Rattle.corner_laws.proofs.Counting.{head_pairs}
 use Rattle.corner_lines.specs.Levels.LevelJoins.{level_count}
 use Rattle.corner_table.specs.declared.table.Priority.{Priority}
-use Rattle.corner_joins.specs.Stops.{IsAddStop}
-use Rattle.corner_table.specs.Views.{in_order}
+use Rattle.corner_view.specs.AddStops.{IsAddStop}
+use Rattle.corner_view.specs.Seen.{in_order}
 use Rattle.corner_table.specs.Invariants.{seen_of}
 use Rattle.corner_table.specs.Tables.{Lists, marks_at, problem_of}
 use Rattle.corner_table.specs.Kept.{IsKept}
@@ -27,7 +27,8 @@ use Rattle.corner_joins.specs.Additions.Parts.{IsPartlyKept}
 use Rattle.corner_joins.specs.Additions.RowJoins.{ArePushed}
 use Rattle.corner_joins.specs.Additions.CostJoins.{AreToJoin, IsCostsStop}
 use Rattle.corner_table.proofs.Readings.KeptFacts.{marks_ordered}
-use Rattle.corner_table.proofs.Readings.MarkingFacts.{marks_inside, append_more}
+use Rattle.corner_table.proofs.Readings.MarkingFacts.{marks_inside}
+use Rattle.corner_view.proofs.Facts.{append_more}
 use Rattle.corner_joins.proofs.Additions.RowPaths.{problem_so_far}
 use Rattle.frac_core.proofs.Lists.{pairs-rest as tail_pairs}
 use Rattle.problem_core.proofs.Marks.{no-swaps}

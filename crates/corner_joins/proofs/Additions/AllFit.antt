@@ -22,7 +22,7 @@ use Rattle.corner_lines.proofs.LevelRows.SameLevels.{unfit-level}
 use Rattle.corner_lines.proofs.LevelRows.StayRows.{level_one}
 use Rattle.corner_table.specs.Invariants.{seen_of}
 use Rattle.corner_table.specs.Tables.{Lists, marks_at, problem_of}
-use Rattle.corner_joins.specs.Stops.{AllSumsFit, FromAdded}
+use Rattle.corner_view.specs.AddStops.{AllSumsFit, FromAdded}
 use Rattle.corner_joins.specs.Additions.Parts.{IsPartlyKept}
 use Rattle.corner_joins.specs.Additions.RowJoins.{ArePushed}
 use Rattle.corner_joins.specs.Additions.SumFits.{DoCostsFit, DoRowsFit}

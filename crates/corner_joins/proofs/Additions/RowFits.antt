@@ -22,7 +22,7 @@ use Rattle.corner_lines.specs.Joins.{over_joined, with_row}
 use Rattle.corner_lines.proofs.LevelRows.SameLevels.{unfit_writing}
 use Rattle.corner_lines.proofs.ProblemChanges.JoinedRows.{fresh-mark, in-parts}
 use Rattle.corner_table.specs.Tables.{Lists, marks_at, marks_over, problem_of}
-use Rattle.corner_table.proofs.Readings.MarkingFacts.{append_more}
+use Rattle.corner_view.proofs.Facts.{append_more}
 use Rattle.corner_joins.specs.Additions.SumFits.{DoFirstTermsFit, DoRowsFit, DoTermsFitAt}
 use Rattle.corner_joins.proofs.Additions.RowStops.{IsBegun, IsStopped, all_problem, begun_begins, first_whole, over_same, stop_begun, stop_whole, then_rest, this_row}
 

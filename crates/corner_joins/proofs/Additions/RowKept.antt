@@ -23,7 +23,7 @@ use Rattle.corner_lines.proofs.SameMarks.{same_corner, same_line, same_rays}
 use Rattle.corner_joins.specs.declared.joining.Sum.{Sum}
 use Rattle.corner_table.specs.declared.table.Slot.{Slot}
 use Rattle.corner_table.specs.declared.table.Standing.{Standing}
-use Rattle.corner_table.specs.Views.{IsNamed}
+use Rattle.corner_view.specs.Seen.{IsNamed}
 use Rattle.corner_table.specs.Tables.{Lists, attr_slot, entry, line_slot, marks_at, number, problem_of, row_at, standing_at}
 use Rattle.corner_table.specs.Kept.{AreOutside, IsAttrRow, IsAttrSlot, IsEquationAt, IsLineRow}
 use Rattle.corner_table.specs.Joining.{at_zero, slot_of_row}

@@ -43,7 +43,7 @@ use Rattle.corner_lines.proofs.LevelRows.LevelRests.{joining_rows_are_free, ligh
 use Rattle.corner_lines.proofs.LevelRows.LevelSound.{first_rows_are_sound, seen-each, seen-same}
 use Rattle.corner_table.specs.declared.table.Standing.{Standing}
 use Rattle.corner_table.specs.declared.table.TheConstants.{LEVELS}
-use Rattle.corner_table.specs.Views.{IsNamed}
+use Rattle.corner_view.specs.Seen.{IsNamed}
 use Rattle.corner_table.specs.Tables.{Lists, marks_at, number, priority_at, problem_of, standing_at}
 use Rattle.corner_table.specs.Kept.{row_count}
 use Rattle.corner_joins.specs.Additions.Parts.{HasPartNumbers, IsLevelPart, joined_at}
@@ -57,7 +57,7 @@ use Rattle.corner_laws.proofs.LevelCosts.LevelLifts.{no-weight-left}
 use Rattle.frac_core.proofs.Numbers.{quotient-times as quotient_more, with-factor as with_factor}
 use Rattle.problem_core.proofs.Lines.{free-cost as free_cost}
 use Rattle.frac_core.proofs.Fitting.{zero-fits as zero_fits}
-use Rattle.corner_table.proofs.Readings.ReadFacts.{named_in as mark_of_line}
+use Rattle.corner_view.proofs.Facts.{named_in as mark_of_line}
 
 -- ---- the first rows with the new one
 

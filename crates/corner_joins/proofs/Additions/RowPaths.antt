@@ -12,17 +12,15 @@ use Rattle.corner_lines.specs.Joins.{IsJoinedBy, with_row}
 use Rattle.corner_lines.proofs.ProblemChanges.JoinedBegins.{begins_more}
 use Rattle.corner_lines.proofs.ProblemChanges.JoinedRows.{in-parts, new-in, old-in}
 use Rattle.corner_table.specs.declared.table.Slot.{Slot}
-use Rattle.corner_table.specs.Views.{IsNamed}
+use Rattle.corner_view.specs.Seen.{IsNamed}
 use Rattle.corner_laws.specs.Lifts.{with_rows}
 use Rattle.corner_table.specs.Tables.{Lists, line_slot, marks_at, problem_of, row_at, standing_at}
-use Rattle.corner_table.proofs.Basics.MarkLists.{same_trans}
-use Rattle.corner_writings.proofs.Basics.SmallFacts.{positive_is}
+use Rattle.corner_view.proofs.Facts.{append_more, positive_is, same_trans}
 use Rattle.corner_joins.specs.Additions.Parts.{IsPartlyKept, IsWithRow}
 use Rattle.corner_table.specs.Joining.{slot_of_row}
 use Rattle.corner_joins.specs.Additions.RowJoins.{ArePushed, IsPushed}
 use Rattle.corner_joins.proofs.Additions.RowPlaces.{IsNext, named_by, old_row, old_standing}
 use Rattle.corner_joins.proofs.Additions.RowJoins.{pushed_is}
-use Rattle.corner_table.proofs.Readings.MarkingFacts.{append_more}
 use Rattle.corner_lines.proofs.SameMarks.{stands-there as stands_there}
 use Rattle.std.proofs.lemmas.List.{append-nil as append_none}
 

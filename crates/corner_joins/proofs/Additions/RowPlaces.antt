@@ -18,12 +18,12 @@ use Rattle.problem_core.specs.Corners.{IsIn, SameMarks, marks_of, place, place_o
 use Rattle.corner_laws.proofs.MarkWritings.Lifts.{each_drop, each_put}
 use Rattle.corner_lines.specs.Joins.{with_row}
 use Rattle.corner_lines.proofs.ProblemChanges.JoinedRows.{fresh-names, new-in, old-in}
-use Rattle.corner_table.specs.declared.table.Owner.{Owner}
-use Rattle.corner_table.specs.declared.table.Owner.TheVariants.{Level as LevelSlot, Attr as AttrSlot, Line as LineSlot}
+use Rattle.corner_view.specs.declared.types.Owner.{Owner}
+use Rattle.corner_view.specs.declared.types.Owner.TheVariants.{Level as LevelSlot, Attr as AttrSlot, Line as LineSlot}
 use Rattle.corner_table.specs.declared.table.Slot.{Slot}
 use Rattle.corner_table.specs.declared.table.Standing.{Standing}
 use Rattle.corner_table.specs.declared.table.TheConstants.{LEVELS}
-use Rattle.corner_table.specs.Views.{IsNamed}
+use Rattle.corner_view.specs.Seen.{IsNamed}
 use Rattle.corner_table.specs.Tables.{Lists, attr_slot, is_side, line_slot, marks_at, problem_of, row_at, slot_at, standing_at, stands_in, stay_rank}
 use Rattle.corner_table.specs.Kept.{AreSlots, IsAttrSlot, IsLineSlot, IsOwned}
 use Rattle.corner_joins.specs.Additions.Parts.{IsPartlyKept}
@@ -37,7 +37,8 @@ use Rattle.corner_table.proofs.Corners.NewTables.{less_or}
 use Rattle.corner_table.proofs.Corners.SlotRanks.{last_pushed, ranks_pushed}
 use Rattle.corner_table.proofs.Readings.SlotFacts.{any_is, named_slot}
 use Rattle.corner_table.proofs.Basics.OwnerFacts.{stay_named}
-use Rattle.corner_table.proofs.Readings.ReadFacts.{named_in as mark_of_line, same_is as one_side}
+use Rattle.corner_view.proofs.Facts.{named_in as mark_of_line}
+use Rattle.corner_table.proofs.Readings.ReadFacts.{same_is as one_side}
 use Rattle.corner_writings.proofs.Basics.SmallFacts.{self_side}
 
 -- a new row's slot is the next one

@@ -31,8 +31,8 @@ use Rattle.corner_laws.proofs.WrittenValues.{contains_each}
 use Rattle.corner_lines.specs.Joins.{over_joined, with_row}
 use Rattle.corner_lines.proofs.ProblemChanges.JoinedRows.{fresh-mark, in-parts, joined_corner, old-in}
 use Rattle.corner_lines.proofs.SameMarks.{same_corner, stands-there as stands_there}
-use Rattle.corner_table.specs.Views.{in_order}
-use Rattle.corner_joins.specs.Stops.{IsAddStop}
+use Rattle.corner_view.specs.Seen.{in_order}
+use Rattle.corner_view.specs.AddStops.{IsAddStop}
 use Rattle.corner_table.specs.Paths.{IsPathStop}
 use Rattle.corner_table.specs.Invariants.{seen_of}
 use Rattle.corner_table.specs.Tables.{Lists, inside_of, marks_at, marks_over, problem_of, row_names, stands_in, stay_names}
@@ -41,13 +41,11 @@ use Rattle.corner_joins.specs.Additions.Parts.{IsPartlyKept, IsTermsStop, IsWith
 use Rattle.corner_joins.specs.Additions.RowJoins.{AreAsBefore, ArePushed}
 use Rattle.corner_joins.specs.Additions.RowSums.{with_pushed}
 use Rattle.corner_table.proofs.Readings.KeptFacts.{marks_ordered}
-use Rattle.corner_table.proofs.Readings.MarkFacts.{same_mark}
-use Rattle.corner_table.proofs.Readings.MarkingFacts.{inside_more, marks_inside, row_named, stay_named, append_more}
+use Rattle.corner_view.proofs.Facts.{append_more, positive_is, same_mark, same_trans}
+use Rattle.corner_table.proofs.Readings.MarkingFacts.{inside_more, marks_inside, row_named, stay_named}
 use Rattle.corner_joins.proofs.Additions.RowJoins.{not_below, not_less}
 use Rattle.corner_joins.proofs.Additions.RowLevels.{stands_before}
 use Rattle.corner_joins.proofs.Additions.RowPaths.{self_in, map_append, moved_last, named_so_far, problem_so_far, drop_next, take_all, take_next}
-use Rattle.corner_writings.proofs.Basics.SmallFacts.{positive_is}
-use Rattle.corner_table.proofs.Basics.MarkLists.{same_trans}
 use Rattle.corner_joins.proofs.Additions.RowPlaces.{IsNext, other_name, row_stands, slots_pushed, stand_same}
 use Rattle.corner_joins.proofs.Additions.RowTerms.{numbered, with_number}
 use Rattle.corner_lines.proofs.ProblemChanges.JoinedBegins.{in-left, in-right, in-either, each-of-all}

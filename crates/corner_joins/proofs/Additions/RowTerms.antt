@@ -34,10 +34,10 @@ use Rattle.corner_lines.proofs.ProblemChanges.JoinedLines.{gives_deviation, goes
 use Rattle.corner_lines.proofs.ProblemChanges.JoinedRows.{den-positive, joined_corner, joined_rays, new-in}
 use Rattle.corner_lines.proofs.Lines.LineUnfits.{line_sum, line_unfit, mark_unfit, reduced_line, part-sum}
 use Rattle.corner_joins.specs.declared.joining.Sum.{Sum}
-use Rattle.corner_table.specs.declared.table.Owner.{Owner}
-use Rattle.corner_table.specs.declared.table.Owner.TheVariants.{Level as LevelSlot, Attr as AttrSlot, Line as LineSlot}
+use Rattle.corner_view.specs.declared.types.Owner.{Owner}
+use Rattle.corner_view.specs.declared.types.Owner.TheVariants.{Level as LevelSlot, Attr as AttrSlot, Line as LineSlot}
 use Rattle.corner_table.specs.declared.table.Standing.{Standing}
-use Rattle.corner_table.specs.Views.{IsNamed}
+use Rattle.corner_view.specs.Seen.{IsNamed}
 use Rattle.corner_table.specs.Tables.{Lists, attr_slot, entry, line_slot, marks_at, number, problem_of, row_at, standing_at}
 use Rattle.corner_table.specs.Kept.{AreSlots, IsAttrRow, IsAttrSlot}
 use Rattle.corner_joins.specs.Additions.Parts.{IsPartlyKept, IsTermsStop}

@@ -22,12 +22,12 @@ use Rattle.problem_core.specs.Corners.{attr_column, marks_of}
 use Rattle.corner_lines.specs.LineEquations.{IsLineEquation, deviation, sign_of}
 use Rattle.corner_lines.specs.Joins.{new_stay, with_attr}
 use Rattle.corner_lines.proofs.ProblemChanges.NewStays.{attr_line, old_line}
-use Rattle.corner_table.specs.declared.table.Owner.{Owner}
-use Rattle.corner_table.specs.declared.table.Owner.TheVariants.{Level as LevelSlot, Attr as AttrSlot, Line as LineSlot}
+use Rattle.corner_view.specs.declared.types.Owner.{Owner}
+use Rattle.corner_view.specs.declared.types.Owner.TheVariants.{Level as LevelSlot, Attr as AttrSlot, Line as LineSlot}
 use Rattle.corner_table.specs.declared.table.Slot.{Slot}
 use Rattle.corner_table.specs.declared.table.Standing.{Standing}
 use Rattle.corner_table.specs.declared.table.TheConstants.{LEVELS, MOST_SLOTS, OWN_RANK}
-use Rattle.corner_table.specs.Views.{IsNamed}
+use Rattle.corner_view.specs.Seen.{IsNamed}
 use Rattle.corner_table.specs.Tables.{Lists, attr_slot, entry, is_side, line_slot, marks_at, number, problem_of, row_at, slot_at, standing_at, stands_in, stay_rank}
 use Rattle.corner_table.specs.Kept.{AreOutside, AreSlots, IsAttrRow, IsAttrSlot, IsEquationAt, IsKept, IsLineRow, IsLineSlot, IsOwned, IsSlot, home_of}
 use Rattle.version_lists.specs.Numbers.{IsNumbered}

@@ -4,9 +4,9 @@ use Rattle.std.proofs.lemmas.List.{get_or_default, get_or_push, get_or_past, len
 use Rattle.std.proofs.lemmas.Bool.{cases_lt}
 use Rattle.std.proofs.lemmas.Bool.Decides.{eqb_tells}
 use Rattle.corner_joins.proofs.Attributes.AttrJoins.{attr_place, count_two, old_slot}
-use Rattle.corner_table.specs.declared.table.Owner.{Owner}
+use Rattle.corner_view.specs.declared.types.Owner.{Owner}
 use Rattle.corner_table.specs.Tables.{slot_at}
-use Rattle.corner_table.specs.declared.table.Owner.TheVariants.{Level as LevelSlot, Attr as AttrSlot, Line as LineSlot}
+use Rattle.corner_view.specs.declared.types.Owner.TheVariants.{Level as LevelSlot, Attr as AttrSlot, Line as LineSlot}
 use Rattle.std.proofs.lemmas.List.Elements.{All-push}
 use Rattle.std.proofs.Math.ListN.{get_or-append}
 use Rattle.frac_core.specs.Fraction.{Fraction, IsFitting}
@@ -38,7 +38,7 @@ use Rattle.corner_table.specs.declared.table.Priority.{Priority}
 use Rattle.corner_table.specs.declared.table.Slot.{Slot}
 use Rattle.corner_table.specs.declared.table.Standing.{Standing}
 use Rattle.corner_table.specs.declared.table.TheConstants.{LEVELS}
-use Rattle.corner_table.specs.Views.{IsNamed}
+use Rattle.corner_view.specs.Seen.{IsNamed}
 use Rattle.corner_table.specs.Tables.{Lists, entry, line_slot, marks_at, number, priority_at, problem_of, row_at, standing_at, stands_in}
 use Rattle.corner_table.specs.Kept.{AreStored, HasLevelNumbers, HasStayRoom, IsAttrRow, IsKept, IsLevelKept, IsLineRow}
 use Rattle.corner_table.specs.Joining.{IsWithAttr, at_value, at_zero, slot_of_attr, slot_of_stay}

@@ -19,7 +19,7 @@ use Rattle.corner_joins.specs.declared.joining.Rise.{Rise}
 use Rattle.corner_table.specs.Tables.{Lists, line_slot, marks_at, priority_at, problem_of, standing_at}
 use Rattle.corner_writings.specs.Rows.{row_number}
 use Rattle.corner_writings.specs.Fitting.{AreSidesAfter, HasFittingRow, HasNoFittingRow, IsDraftAt, side_after}
-use Rattle.corner_table.specs.Views.{IsNamed}
+use Rattle.corner_view.specs.Seen.{IsNamed}
 use Rattle.corner_joins.specs.Additions.Parts.{IsNextRow, IsPartlyKept}
 use Rattle.corner_joins.specs.Additions.CostJoins.{IsJoinedCost, IsJoinedRow, home_at, with_next}
 use Rattle.corner_table.proofs.Readings.MarkFacts.{inside_stands, stands_inside}

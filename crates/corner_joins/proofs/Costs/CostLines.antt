@@ -25,7 +25,7 @@ use Rattle.corner_lines.proofs.Lines.LinePivots.{equation_is_pivot}
 use Rattle.corner_lines.proofs.Lines.LineWritings.{line_value}
 use Rattle.corner_table.specs.Tables.{Lists, line_slot, marks_at, number, priority_at, problem_of, slot_at, standing_at}
 use Rattle.corner_table.specs.Kept.{IsEquationAt, IsLineRow, IsLineSlot}
-use Rattle.corner_table.specs.Views.{IsNamed}
+use Rattle.corner_view.specs.Seen.{IsNamed}
 use Rattle.corner_joins.specs.Additions.Parts.{IsNextRow, IsPartlyKept, joined_at}
 use Rattle.corner_joins.specs.Additions.CostJoins.{IsJoining, with_next}
 use Rattle.corner_table.proofs.Readings.SlotFacts.{any_impl, any_is}

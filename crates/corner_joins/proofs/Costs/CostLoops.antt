@@ -9,7 +9,7 @@ use Rattle.row_core.specs.Rows.{IsKeptRow}
 use Rattle.version_lists.proofs.Indexing.{none_kept, number_at_column}
 use Rattle.problem_core.specs.declared.parts.Rel.TheVariants.{Eq}
 use Rattle.problem_core.specs.declared.parts.RowName.{RowName}
-use Rattle.corner_table.specs.declared.table.Owner.TheVariants.{Level as LevelSlot}
+use Rattle.corner_view.specs.declared.types.Owner.TheVariants.{Level as LevelSlot}
 use Rattle.corner_table.specs.declared.table.Slot.{Slot}
 use Rattle.corner_table.specs.Reads.LevelNumbers.{side_share}
 use Rattle.version_lists.specs.Lists.{HasColumn}
@@ -24,7 +24,7 @@ use Rattle.problem_core.specs.declared.stops.Quantity.TheVariants.{Plain, Terms,
 use Rattle.frac_core.specs.declared.memory.Stop.TheVariants.{Refused}
 use Rattle.problem_core.specs.declared.parts.Stay.{Stay}
 use Rattle.problem_core.specs.Layout.{Line, Row, line_of_row, lines, stay_lines}
-use Rattle.corner_table.specs.Views.{IsNamed}
+use Rattle.corner_view.specs.Seen.{IsNamed}
 use Rattle.corner_joins.specs.Additions.Parts.{IsRowsStop}
 use Rattle.corner_table.proofs.Readings.SlotFacts.{any_impl}
 use Rattle.corner_joins.proofs.Costs.CostLines.{row_among}
@@ -34,12 +34,13 @@ use Rattle.corner_lines.specs.Levels.LevelJoins.{level_count}
 use Rattle.corner_table.specs.declared.table.Priority.{Priority}
 use Rattle.corner_table.specs.declared.table.TheConstants.{LEVELS}
 use Rattle.corner_table.specs.Tables.{Lists, line_slot, marks_at, marks_over, priority_at, problem_of, row_at, standing_at}
-use Rattle.corner_table.specs.declared.table.Owner.TheVariants.{Line as LineSlot}
+use Rattle.corner_view.specs.declared.types.Owner.TheVariants.{Line as LineSlot}
 use Rattle.corner_table.specs.Kept.{IsKept}
 use Rattle.corner_joins.proofs.Attributes.AttrJoins.{nowhere}
 use Rattle.corner_joins.specs.Additions.Parts.{IsPartlyKept}
 use Rattle.corner_joins.specs.Additions.CostJoins.{AreCostsJoined, AreToJoin, IsCostJoined, IsCostsStop, IsJoining, IsLineListed, IsLineCostStop, IsNextListed, home_at, with_cost}
-use Rattle.corner_table.proofs.Readings.MarkingFacts.{marks_inside, append_more}
+use Rattle.corner_table.proofs.Readings.MarkingFacts.{marks_inside}
+use Rattle.corner_view.proofs.Facts.{append_more}
 use Rattle.corner_table.proofs.Readings.SlotFacts.{named_slot}
 use Rattle.corner_joins.proofs.Additions.PartFacts.{part_kept}
 use Rattle.corner_joins.proofs.Additions.RowStops.{next_rows, this_row}

@@ -15,7 +15,7 @@ use Rattle.corner_table.specs.Tables.{Lists, line_slot, problem_of, row_at, stan
 use Rattle.version_lists.specs.Numbers.{IsNumbered}
 use Rattle.corner_table.specs.Joining.{slot_of_row}
 use Rattle.corner_exchange.specs.Swaps.Exchanges.{opposite}
-use Rattle.corner_table.specs.Views.{IsNamed}
+use Rattle.corner_view.specs.Seen.{IsNamed}
 
 -- with the row in the next slot, and all else as before
 pub record IsPushed (r : Row) (old new : Lists) : Type 0 where

@@ -6,8 +6,8 @@ use Rattle.problem_core.specs.declared.parts.RowName.TheVariants.{Held, Stay as 
 use Rattle.problem_core.specs.Corners.{HasNegativeColumn}
 use Rattle.problem_core.specs.Layout.{Problem, lines}
 use Rattle.corner_lines.specs.Removals.{IsFree, without_attr}
-use Rattle.corner_table.specs.declared.table.Owner.{Owner}
-use Rattle.corner_table.specs.declared.table.Owner.TheVariants.{Level as LevelSlot, Attr as AttrSlot, Line as LineSlot}
+use Rattle.corner_view.specs.declared.types.Owner.{Owner}
+use Rattle.corner_view.specs.declared.types.Owner.TheVariants.{Level as LevelSlot, Attr as AttrSlot, Line as LineSlot}
 use Rattle.corner_table.specs.declared.table.Slot.{Slot}
 use Rattle.corner_table.specs.declared.table.Table.{Table}
 use Rattle.corner_leaving.specs.Dropping.{dropped_attr}
@@ -16,13 +16,13 @@ use Rattle.corner_table.specs.Invariants.{IsConsistent, IsEarlier, name_of, name
 use Rattle.corner_table.specs.Kept.{IsKept, IsOwned, IsSlot}
 use Rattle.corner_table.specs.Reads.Listing.{HasLeft}
 use Rattle.corner_table.specs.Tables.{Lists, attr_slot, line_slot, lists_of, marks_at, problem_of, slot_at}
-use Rattle.corner_table.specs.Views.{AreCandidates, IsNamed, IsOutside}
+use Rattle.corner_view.specs.Seen.{AreCandidates, IsNamed, IsOutside}
 use Rattle.corner_table.proofs.Basics.OwnerFacts.{stay_named}
 use Rattle.corner_leaving.proofs.Attributes.DroppedAttrCandidates.{attr_left_negative}
 use Rattle.corner_leaving.proofs.Attributes.DroppedAttrKept.{IsApart, IsAttrDrop, attr_drop, attr_drop_kept, attr_drop_marks, attr_slot_same, count, left-lines, named-attr-left}
 use Rattle.corner_table.proofs.Basics.ListFacts.{all_from, from_map, to_map}
 use Rattle.corner_exchange.proofs.Swaps.ListedSlots.{were_listed}
-use Rattle.corner_table.proofs.Readings.ReadFacts.{mark_named, named_in}
+use Rattle.corner_view.proofs.Facts.{mark_named, named_in}
 use Rattle.corner_table.proofs.Readings.SlotFacts.{any_is}
 use Rattle.corner_table.proofs.Readings.WritingFacts.{attr_owner, line_owner}
 use Rattle.problem_core.proofs.RowNames.{held-not-stay as held-not}

@@ -30,8 +30,8 @@ use Rattle.corner_laws.proofs.LevelCosts.LevelSizes.{no-over, no-under}
 use Rattle.corner_lines.specs.LineEquations.{IsLineEquation, IsOutsideLine, deviation, sign_of}
 use Rattle.corner_lines.specs.Removals.{IsFree, without_attr}
 use Rattle.corner_lines.proofs.ProblemChanges.DroppedAttr.{attr_left_attr, attr_left_corner, attr_left_inside, attr_left_rays, attr_none, line_none, stay-out, filter-on, filter-off, other_stay}
-use Rattle.corner_table.specs.declared.table.Owner.{Owner}
-use Rattle.corner_table.specs.declared.table.Owner.TheVariants.{Level as LevelSlot, Attr as AttrSlot, Line as LineSlot}
+use Rattle.corner_view.specs.declared.types.Owner.{Owner}
+use Rattle.corner_view.specs.declared.types.Owner.TheVariants.{Level as LevelSlot, Attr as AttrSlot, Line as LineSlot}
 use Rattle.corner_table.specs.declared.table.Slot.{Slot}
 use Rattle.corner_table.specs.declared.table.Standing.{Standing}
 use Rattle.corner_table.specs.declared.table.TheConstants.{LEVELS, MOST_SLOTS}
@@ -40,12 +40,12 @@ use Rattle.corner_leaving.specs.Dropping.{dropped_attr}
 use Rattle.corner_table.specs.Kept.{AreOutside, AreSlots, AreStored, HasStayRoom, IsAttrRow, IsAttrSlot, IsEquationAt, IsKept, IsLevelKept, IsLineRow, IsLineSlot, IsOwned, IsSlot, home_of}
 use Rattle.corner_writings.specs.Rows.{row_number}
 use Rattle.corner_table.specs.Tables.{Lists, attr_slot, entry, is_side, line_slot, marks_at, number, priority_at, problem_of, row_at, slot_at, standing_at, stands_in, stay_rank}
-use Rattle.corner_table.specs.Views.{IsNamed}
+use Rattle.corner_view.specs.Seen.{IsNamed}
 use Rattle.corner_table.proofs.Basics.SmallFacts.{own_name, own_stay}
 use Rattle.corner_table.proofs.Basics.OwnerFacts.{stay_named}
 use Rattle.problem_core.proofs.RowNames.{stay-same}
 use Rattle.corner_leaving.proofs.Attributes.DroppedAttrLevels.{attr_left_cost, attr_left_level, attr_left_unit, attr_level_none}
-use Rattle.corner_table.proofs.Basics.ListFacts.{stays_part}
+use Rattle.corner_view.proofs.Facts.{stays_part}
 use Rattle.corner_table.proofs.Corners.SlotRanks.{last_left, ranks_left}
 use Rattle.corner_table.proofs.Readings.MarkFacts.{stands_inside}
 use Rattle.corner_exchange.proofs.Pivots.PairFacts.{named_mark}

@@ -25,7 +25,7 @@ use Rattle.corner_laws.specs.Units.{IsLevelRow, IsLevelUnit, over_share, under_s
 use Rattle.corner_laws.proofs.Counting.{head_pairs}
 use Rattle.corner_lines.specs.Removals.{IsFree, without_attr}
 use Rattle.corner_lines.proofs.ProblemChanges.DroppedAttr.{filter-on, filter-off, other_stay, still-stands}
-use Rattle.corner_table.proofs.Basics.ListFacts.{stays_part}
+use Rattle.corner_view.proofs.Facts.{stays_part}
 use Rattle.corner_table.proofs.Basics.StayCosts.{stays_cost as stays-cost}
 use Rattle.frac_core.proofs.Numbers.{no-product as no-weight}
 use Rattle.frac_core.proofs.Lists.{pairs-rest as tail_pairs}

@@ -19,8 +19,8 @@ use Rattle.corner_lines.specs.Removals.{without_row}
 use Rattle.corner_lines.proofs.Lines.LinePivots.{equation_is_pivot}
 use Rattle.corner_leaving.specs.declared.leaving.Leaver.{Leaver}
 use Rattle.corner_leaving.specs.declared.leaving.Left.{Left}
-use Rattle.corner_table.specs.declared.table.Owner.{Owner}
-use Rattle.corner_table.specs.declared.table.Owner.TheVariants.{Level as LevelSlot, Attr as AttrSlot, Line as LineSlot}
+use Rattle.corner_view.specs.declared.types.Owner.{Owner}
+use Rattle.corner_view.specs.declared.types.Owner.TheVariants.{Level as LevelSlot, Attr as AttrSlot, Line as LineSlot}
 use Rattle.corner_table.specs.declared.table.Slot.{Slot}
 use Rattle.corner_table.specs.declared.table.Table.{Table}
 use Rattle.corner_joins.specs.Additions.CostJoins.{IsFreeLine}
@@ -32,7 +32,7 @@ use Rattle.corner_joins.specs.Additions.JoinedLists.{IsFreeRow}
 use Rattle.corner_leaving.specs.Leaving.{IsLeaver, marks_left, problem_left}
 use Rattle.corner_table.specs.Reads.LevelNumbers.{side_share}
 use Rattle.corner_table.specs.Tables.{Lists, entry, line_slot, lists_of, marks_at, number, problem_of, row_at, slot_at, standing_at}
-use Rattle.corner_table.specs.Views.{AreCandidates, IsNamed, IsOutside}
+use Rattle.corner_view.specs.Seen.{AreCandidates, IsNamed, IsOutside}
 use Rattle.corner_lines.proofs.LevelRows.OtherNumbers.{other-number}
 use Rattle.corner_exchange.proofs.Swaps.ListedSlots.{not_zero}
 use Rattle.corner_leaving.proofs.Removals.DroppedCandidates.{left_negative}
@@ -42,7 +42,8 @@ use Rattle.corner_table.proofs.Readings.MarkFacts.{inside_stands}
 use Rattle.corner_table.proofs.Readings.KeptFacts.{row_kept}
 use Rattle.corner_table.proofs.Basics.ListFacts.{all_from, from_map, to_map}
 use Rattle.corner_exchange.proofs.Swaps.ListedSlots.{CanBeListed, outside_listed, were_listed}
-use Rattle.corner_table.proofs.Readings.ReadFacts.{is_some, mark_named, named_in}
+use Rattle.corner_table.proofs.Readings.ReadFacts.{is_some}
+use Rattle.corner_view.proofs.Facts.{mark_named, named_in}
 use Rattle.corner_table.proofs.Basics.OwnerFacts.{line-owned}
 use Rattle.corner_table.proofs.Readings.SlotFacts.{any_is, named_slot}
 use Rattle.corner_table.proofs.Readings.WritingFacts.{line_owner, lines_apart}

@@ -29,8 +29,8 @@ use Rattle.corner_lines.specs.LineEquations.{IsLineEquation, IsOutsideLine, devi
 use Rattle.corner_lines.proofs.ProblemChanges.Dropped.{attr_without, deviation_without, left_corner, left_line, left_rays, row-on, row-off, filter-on, filter-off, other_row, left-far as left_far}
 use Rattle.corner_leaving.specs.declared.leaving.Leaver.{Leaver}
 use Rattle.corner_leaving.specs.declared.leaving.Left.{Left}
-use Rattle.corner_table.specs.declared.table.Owner.{Owner}
-use Rattle.corner_table.specs.declared.table.Owner.TheVariants.{Level as LevelSlot, Attr as AttrSlot, Line as LineSlot}
+use Rattle.corner_view.specs.declared.types.Owner.{Owner}
+use Rattle.corner_view.specs.declared.types.Owner.TheVariants.{Level as LevelSlot, Attr as AttrSlot, Line as LineSlot}
 use Rattle.corner_table.specs.declared.table.Priority.{Priority}
 use Rattle.corner_table.specs.declared.table.Slot.{Slot}
 use Rattle.corner_table.specs.declared.table.Standing.{Standing}
@@ -42,7 +42,7 @@ use Rattle.corner_writings.specs.Rows.{row_number}
 use Rattle.corner_table.specs.Kept.{AreOutside, AreSlots, AreStored, HasStayRoom, IsAttrRow, IsAttrSlot, IsEquationAt, IsKept, IsLevelKept, IsLineRow, IsLineSlot, IsOwned, IsSlot, home_of, row_count}
 use Rattle.corner_leaving.specs.Leaving.{IsLeaver, IsLevelLeft, marks_left, problem_left}
 use Rattle.corner_table.specs.Tables.{Lists, attr_slot, entry, is_side, line_slot, marks_at, number, priority_at, problem_of, row_at, slot_at, standing_at, stands_in, stay_rank}
-use Rattle.corner_table.specs.Views.{IsNamed}
+use Rattle.corner_view.specs.Seen.{IsNamed}
 use Rattle.corner_table.proofs.Basics.SmallFacts.{own_name, own_stay}
 use Rattle.corner_table.proofs.Basics.OwnerFacts.{stay_named}
 use Rattle.problem_core.proofs.RowNames.{held-not-stay}

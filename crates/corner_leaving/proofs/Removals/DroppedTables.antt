@@ -24,11 +24,11 @@ use Rattle.corner_table.specs.Reads.Listing.{HasLeft}
 use Rattle.corner_leaving.specs.Leaving.{IsLeaver, IsLevelLeft}
 use Rattle.corner_table.specs.Tables.{IsListedOf, Lists, attr_slot, marks_at, problem_of, row_at, standing_at}
 use Rattle.problem_core.specs.Window.{zero_fraction}
-use Rattle.corner_table.specs.Views.{IsNamed}
+use Rattle.corner_view.specs.Seen.{IsNamed}
 use Rattle.corner_leaving.proofs.Removals.DroppedLists.{other_than, removed}
 use Rattle.corner_table.proofs.Basics.ListFacts.{to_map}
 use Rattle.corner_table.proofs.Readings.WritingFacts.{in_mark}
-use Rattle.corner_table.proofs.Readings.ReadFacts.{mark_named}
+use Rattle.corner_view.proofs.Facts.{mark_named}
 
 pub left_below : (t : Lists) (leaver : Leaver) (left : Left) → IsKept t → leaver.level < LEVELS → IsLevelLeft t leaver left → IsBelow (length t.slots) left.change.row
 left_below t leaver left kept lt h = λ i d within.

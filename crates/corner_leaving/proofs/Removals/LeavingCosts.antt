@@ -34,7 +34,7 @@ use Rattle.corner_leaving.specs.declared.leaving.Leaver.{Leaver}
 use Rattle.corner_leaving.specs.declared.leaving.Left.{Left}
 use Rattle.corner_table.specs.declared.table.TheConstants.{LEVELS}
 use Rattle.corner_table.specs.Tables.{Lists, line_slot, marks_at, number, priority_at, problem_of, standing_at}
-use Rattle.corner_exchange.specs.Stops.{IsUnfitStop}
+use Rattle.corner_view.specs.Stops.{IsUnfitStop}
 use Rattle.corner_writings.specs.Rows.{row_number}
 use Rattle.corner_leaving.specs.Leaving.{IsFittingLeft, IsLeftRow, IsLeftStop, IsLevelLeft, IsUnfitLeft, left_count, marks_left, problem_left}
 use Rattle.corner_joins.proofs.Costs.CostJoins.{row_fits, row_unfit}

@@ -32,7 +32,7 @@ use Rattle.corner_table.specs.declared.table.TheConstants.{LEVELS}
 use Rattle.corner_table.specs.declared.table.Slot.{Slot}
 use Rattle.corner_table.specs.Tables.{Lists, entry, line_slot, marks_at, priority_at, problem_of, row_at, slot_at, standing_at}
 use Rattle.corner_table.specs.Kept.{AreSlots, IsKept, IsLineSlot}
-use Rattle.corner_table.specs.Views.{IsNamed}
+use Rattle.corner_view.specs.Seen.{IsNamed}
 use Rattle.corner_table.specs.Reads.LevelNumbers.{IsCounted, unit_at}
 use Rattle.corner_joins.specs.Additions.CostJoins.{AreShareFactors, IsLeastUnit, IsUnfitRise}
 use Rattle.corner_leaving.specs.Leaving.{HasMultiple, IsLeaver, IsLeftRow, IsLeftShare, IsLeftUnit, IsTimes, left_count, left_whole, marks_left, problem_left}

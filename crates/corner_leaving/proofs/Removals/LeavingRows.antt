@@ -40,7 +40,7 @@ use Rattle.corner_leaving.specs.declared.leaving.Leaver.{Leaver}
 use Rattle.corner_table.specs.declared.table.TheConstants.{LEVELS}
 use Rattle.corner_table.specs.Tables.{Lists, entry, line_slot, marks_at, number, priority_at, problem_of, slot_at, standing_at}
 use Rattle.corner_table.specs.Kept.{IsEquationAt, IsKept, IsLevelKept, IsLineRow, IsLineSlot, IsSlot}
-use Rattle.corner_table.specs.Views.{IsNamed}
+use Rattle.corner_view.specs.Seen.{IsNamed}
 use Rattle.corner_table.specs.Kept.{IsOutsideSlot}
 use Rattle.corner_writings.specs.Rows.{row_number}
 use Rattle.corner_table.specs.Reads.LevelNumbers.{share_of, side_share, unit_at}

@@ -37,10 +37,10 @@ use Rattle.corner_lines.proofs.LevelRows.LevelExchanges.{by-sides}
 use Rattle.stay_orders.specs.Orders.{fronted}
 use Rattle.stay_orders.proofs.LevelRows.{ray_there}
 use Rattle.stay_orders.proofs.Wholes.{front_apart, held_there, whole_there}
-use Rattle.corner_table.specs.Views.{IsOutside}
+use Rattle.corner_view.specs.Seen.{IsOutside}
 use Rattle.corner_table.specs.Tables.{Lists, entry, line_slot, marks_at, problem_of}
 use Rattle.corner_table.specs.Kept.{IsKept}
-use Rattle.corner_table.proofs.Readings.ReadFacts.{named_in}
+use Rattle.corner_view.proofs.Facts.{named_in}
 use Rattle.corner_table.proofs.Basics.OwnerFacts.{stay_named}
 use Rattle.corner_writings.proofs.Basics.SmallFacts.{zero_unless}
 use Rattle.corner_writings.proofs.Readings.MovedFacts.{moves_entry}

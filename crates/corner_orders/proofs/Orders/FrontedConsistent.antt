@@ -23,10 +23,10 @@ use Rattle.corner_table.specs.Histories.{AreAlike, lists_before}
 use Rattle.corner_table.specs.Invariants.{IsConsistent, IsEarlier, name_of, names_of}
 use Rattle.corner_table.specs.Kept.{IsKept, IsSlot}
 use Rattle.corner_table.specs.Tables.{Lists, line_slot, lists_of, marks_at, problem_of, row_at, slot_at}
-use Rattle.corner_table.specs.Views.{AreCandidates, IsNamed, IsOutside}
+use Rattle.corner_view.specs.Seen.{AreCandidates, IsNamed, IsOutside}
 use Rattle.corner_table.proofs.Basics.ListFacts.{all_from, from_map, to_map}
 use Rattle.corner_table.proofs.Readings.KeptFacts.{row_kept}
-use Rattle.corner_table.proofs.Readings.ReadFacts.{mark_named}
+use Rattle.corner_view.proofs.Facts.{mark_named}
 use Rattle.corner_table.proofs.Readings.SlotFacts.{named_slot}
 use Rattle.corner_table.proofs.Readings.WritingFacts.{line_owner, lines_apart}
 use Rattle.corner_table.proofs.Basics.OwnerFacts.{stay_named}

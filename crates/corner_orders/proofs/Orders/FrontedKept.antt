@@ -21,13 +21,13 @@ use Rattle.stay_orders.proofs.LevelRows.{levels, lines_sum, rays}
 use Rattle.stay_orders.proofs.Members.{still_there, there_before}
 use Rattle.stay_orders.proofs.Orders.{front_each}
 use Rattle.stay_orders.proofs.Wholes.{front_length, held_there, whole_there}
-use Rattle.corner_table.specs.declared.table.Owner.{Owner}
-use Rattle.corner_table.specs.declared.table.Owner.TheVariants.{Level as LevelSlot, Attr as AttrSlot, Line as LineSlot}
+use Rattle.corner_view.specs.declared.types.Owner.{Owner}
+use Rattle.corner_view.specs.declared.types.Owner.TheVariants.{Level as LevelSlot, Attr as AttrSlot, Line as LineSlot}
 use Rattle.corner_table.specs.declared.table.Slot.{Slot}
 use Rattle.corner_table.specs.declared.table.TheConstants.{LEVELS, OWN_RANK}
 use Rattle.corner_table.specs.Tables.{Lists, attr_slot, line_slot, marks_at, number, problem_of, row_at, slot_at, standing_at}
 use Rattle.corner_table.specs.Kept.{AreOutside, AreSlots, HasStayRoom, IsAttrSlot, IsKept, IsLineRow, IsLineSlot, IsOwned, IsSlot, IsStayOwner, home_of}
-use Rattle.corner_table.specs.Views.{IsNamed}
+use Rattle.corner_view.specs.Seen.{IsNamed}
 use Rattle.corner_exchange.specs.Swaps.Exchanges.{IsEquationBy}
 use Rattle.corner_exchange.specs.Swaps.NextLists.{IsLevelNext, IsLineBy}
 use Rattle.corner_table.proofs.Basics.SmallFacts.{own_name}

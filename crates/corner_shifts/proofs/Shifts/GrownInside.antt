@@ -20,7 +20,7 @@ use Rattle.problem_core.specs.Corners.{Swap}
 use Rattle.problem_core.specs.Layout.{lines}
 use Rattle.corner_laws.specs.Runs.{other_side}
 use Rattle.corner_shifts.specs.declared.shifting.Growth.{Growth}
-use Rattle.corner_table.specs.declared.table.Owner.TheVariants.{Line as LineSlot}
+use Rattle.corner_view.specs.declared.types.Owner.TheVariants.{Line as LineSlot}
 use Rattle.corner_table.specs.declared.table.Standing.{Standing}
 use Rattle.corner_table.specs.declared.table.TheConstants.{LEVELS}
 use Rattle.corner_exchange.specs.Swaps.Exchanges.{with_value}
@@ -30,7 +30,7 @@ use Rattle.corner_table.specs.Reads.LevelNumbers.{IsSlotOfLine, count_of, unit_a
 use Rattle.corner_shifts.specs.Shifting.{AreGrown, HaveGrown, IsGrowStop, IsGrowth, IsGrown, IsGrownValueStop, IsThere, growth_at, growth_by, home_growth, inside_growth, mark_growth, with_standings}
 use Rattle.corner_table.specs.Tables.{Lists, line_slot, problem_of, slot_at, standing_at}
 use Rattle.corner_exchange.specs.Swaps.TurnedLevels.{IsTurn, counts_at}
-use Rattle.corner_table.specs.Views.{IsNamed}
+use Rattle.corner_view.specs.Seen.{IsNamed}
 use Rattle.corner_shifts.proofs.Shifts.GrownLists.{there_before}
 use Rattle.corner_table.proofs.Readings.KeptFacts.{value_kept}
 use Rattle.corner_exchange.proofs.Pivots.LevelCosts.{unit_above, unit_fits}

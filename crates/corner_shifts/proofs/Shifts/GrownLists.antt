@@ -16,8 +16,8 @@ use Rattle.problem_core.specs.declared.stops.What.{What}
 use Rattle.problem_core.specs.Changes.Stops.{TableStop}
 use Rattle.frac_core.specs.declared.memory.Stop.TheVariants.{Refused, OutOfMemory as NoMemory}
 use Rattle.corner_shifts.specs.declared.shifting.Growth.{Growth}
-use Rattle.corner_table.specs.declared.table.Owner.{Owner}
-use Rattle.corner_table.specs.declared.table.Owner.TheVariants.{Level as LevelSlot, Attr as AttrSlot, Line as LineSlot}
+use Rattle.corner_view.specs.declared.types.Owner.{Owner}
+use Rattle.corner_view.specs.declared.types.Owner.TheVariants.{Level as LevelSlot, Attr as AttrSlot, Line as LineSlot}
 use Rattle.corner_table.specs.declared.table.Standing.{Standing}
 use Rattle.corner_exchange.specs.Swaps.Exchanges.{IsWhatOf}
 use Rattle.corner_table.specs.Kept.{AreSlots, IsKept}

@@ -5,7 +5,8 @@ use Rattle.frac_core.specs.Fraction as fractions
 use Rattle.problem_core.specs.declared.parts.RowName.TheVariants.{Held}
 use Rattle.problem_core.specs.Layout.{Problem, Row}
 use Rattle.corner_lines.specs.Shifts.{IsShift, has_constant}
-use Rattle.corner_shifts.specs.Shifting.{HaveGrown, IsNear, IsShifted, with_constant_at, with_shifted}
+use Rattle.corner_shifts.specs.Shifting.{HaveGrown, IsShifted, with_constant_at, with_shifted}
+use Rattle.corner_view.specs.Changes.{IsNear}
 use Rattle.corner_table.specs.Tables.{Lists, line_slot, problem_of}
 use Rattle.corner_lines.proofs.ProblemChanges.Shifted.{shift-off as other-row}
 use Rattle.frac_core.proofs.Lists.{pairs-rest}

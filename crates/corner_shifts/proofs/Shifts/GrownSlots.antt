@@ -13,8 +13,8 @@ use Rattle.problem_core.specs.declared.stops.What.{What}
 use Rattle.problem_core.specs.declared.stops.What.TheVariants.{Attr as AttrOf, Mark as MarkOf, Level as LevelOf}
 use Rattle.problem_core.specs.Layout.{HasStay, lines}
 use Rattle.corner_shifts.specs.declared.shifting.Growth.{Growth}
-use Rattle.corner_table.specs.declared.table.Owner.{Owner}
-use Rattle.corner_table.specs.declared.table.Owner.TheVariants.{Level as LevelSlot, Attr as AttrSlot, Line as LineSlot}
+use Rattle.corner_view.specs.declared.types.Owner.{Owner}
+use Rattle.corner_view.specs.declared.types.Owner.TheVariants.{Level as LevelSlot, Attr as AttrSlot, Line as LineSlot}
 use Rattle.corner_table.specs.declared.table.TheConstants.{LEVELS}
 use Rattle.corner_exchange.specs.Swaps.Exchanges.{IsWhatOf, IsWhatAt}
 use Rattle.corner_table.specs.Kept.{AreSlots, IsAttrRow, IsKept, IsLineRow, IsOwned, IsSlot, level_own}

@@ -35,8 +35,8 @@ use Rattle.corner_lines.proofs.LevelRows.LevelExchanges.{inside-numbers}
 use Rattle.corner_lines.proofs.Costs.LevelPlaces.{cost_everywhere}
 use Rattle.corner_lines.proofs.ProblemChanges.Shifted.{held-named, names-sum, raised-other, shift-small, unshift-solves, unshifted, raised-sum}
 use Rattle.corner_lines.proofs.ProblemChanges.ShiftedCorner.{shift_corner}
-use Rattle.corner_table.proofs.Seen.ShiftedLines.{row_seen_alike, shift_seen, shift_whole, unit_seen}
-use Rattle.corner_table.proofs.Seen.SeenLines.{scales_seen}
+use Rattle.corner_view.proofs.Seen.ShiftedLines.{row_seen_alike, shift_seen, shift_whole, unit_seen}
+use Rattle.corner_view.proofs.Seen.SeenLines.{scales_seen}
 use Rattle.corner_laws.proofs.PathEnds.Rises.{step}
 use Rattle.corner_laws.proofs.RunSteps.ColumnSigns.{nothing}
 use Rattle.frac_core.proofs.Numbers.{neg-times, mul-neg as mul-opp}

@@ -22,7 +22,7 @@ use Rattle.corner_lines.proofs.LevelRows.LevelExchanges.{inside-numbers}
 use Rattle.corner_lines.proofs.Lines.LineWritings.{named-mark}
 use Rattle.corner_lines.proofs.ProblemChanges.Shifted.{held-named}
 use Rattle.corner_shifts.specs.declared.shifting.Growth.{Growth}
-use Rattle.corner_table.specs.declared.table.Owner.{Owner}
+use Rattle.corner_view.specs.declared.types.Owner.{Owner}
 use Rattle.corner_table.specs.declared.table.Standing.{Standing}
 use Rattle.corner_table.specs.declared.table.TheConstants.{LEVELS}
 use Rattle.corner_table.specs.Tables.{Lists, entry, line_slot, marks_at, number, priority_at, problem_of, slot_at, standing_at}
@@ -30,11 +30,11 @@ use Rattle.corner_table.specs.Kept.{IsKept, IsLevelKept, IsSlot, home_of, level_
 use Rattle.corner_exchange.specs.Swaps.LevelChanges.{count_by}
 use Rattle.corner_table.specs.Reads.LevelNumbers.{count_of, unit_at}
 use Rattle.corner_shifts.specs.Shifting.{AreShifted, growth_at, growth_by, home_growth, inside_growth, mark_growth, sign_at, sign_there, with_shifted}
-use Rattle.corner_table.specs.Views.{IsNamed}
+use Rattle.corner_view.specs.Seen.{IsNamed}
 use Rattle.corner_exchange.proofs.LevelFacts.LevelCounts.{count_is}
 use Rattle.corner_writings.proofs.LevelFacts.LevelNumberFacts.{AreLevelsOf, IsKnown, all-known, named_line}
 use Rattle.corner_writings.proofs.LevelFacts.LevelRowFacts.{in_line, out_line}
-use Rattle.corner_table.proofs.Readings.ReadFacts.{mark_named}
+use Rattle.corner_view.proofs.Facts.{mark_named}
 use Rattle.corner_shifts.proofs.Shifts.ShiftCosts.{IsShiftHere}
 use Rattle.corner_table.proofs.Readings.SlotFacts.{any_is, named_slot}
 use Rattle.corner_exchange.proofs.Basics.SumTurns.{nothing-added}

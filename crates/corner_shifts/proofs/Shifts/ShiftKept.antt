@@ -12,8 +12,8 @@ use Rattle.corner_lines.specs.Fronts.{constantless}
 use Rattle.corner_lines.specs.LineEquations.{IsOutsideLine}
 use Rattle.corner_lines.specs.Shifts.{AreSeenAlike, has_constant, with_constant}
 use Rattle.corner_lines.proofs.ProblemChanges.Shifted.{changed, shift_rays}
-use Rattle.corner_table.specs.declared.table.Owner.{Owner}
-use Rattle.corner_table.specs.declared.table.Owner.TheVariants.{Level as LevelSlot, Attr as AttrSlot, Line as LineSlot}
+use Rattle.corner_view.specs.declared.types.Owner.{Owner}
+use Rattle.corner_view.specs.declared.types.Owner.TheVariants.{Level as LevelSlot, Attr as AttrSlot, Line as LineSlot}
 use Rattle.corner_table.specs.declared.table.Standing.{Standing}
 use Rattle.corner_table.specs.declared.table.TheConstants.{LEVELS}
 use Rattle.corner_table.specs.Tables.{Lists, line_slot, marks_at, number, problem_of, slot_at, standing_at}
@@ -23,9 +23,9 @@ use Rattle.corner_table.proofs.Basics.SmallFacts.{own_name, own_stay}
 use Rattle.corner_table.proofs.Readings.KeptFacts.{value_kept}
 use Rattle.corner_shifts.proofs.Shifts.ShiftCosts.{after_corner, shifted_cost}
 use Rattle.corner_shifts.proofs.Shifts.ShiftGrowths.{IsShiftOf, level_grown, shift_here}
-use Rattle.corner_table.proofs.Seen.ShiftedLines.{fitting_seen, reduced_seen, row_seen_alike, shift_named, shift_seen, shift_whole, unit_seen}
+use Rattle.corner_view.proofs.Seen.ShiftedLines.{fitting_seen, reduced_seen, row_seen_alike, shift_named, shift_seen, shift_whole, unit_seen}
 use Rattle.corner_shifts.proofs.Shifts.ShiftValues.{attr_shifted, line_shifted, shift_marks_at}
-use Rattle.corner_table.proofs.Seen.SeenLines.{each_seen}
+use Rattle.corner_view.proofs.Seen.SeenLines.{each_seen}
 use Rattle.corner_shifts.proofs.Stays.StoodKept.{home_seen, slot_back}
 
 -- ---- slots

@@ -7,8 +7,8 @@ use Rattle.problem_core.specs.Changes.Stops.{TableStop}
 use Rattle.problem_core.specs.Layout.{Problem}
 use Rattle.corner_lines.specs.Shifts.{with_constant}
 use Rattle.corner_table.specs.declared.table.Table.{Table}
-use Rattle.corner_table.specs.Views.{AreCandidates, IsNamed}
-use Rattle.corner_exchange.specs.Stops.{IsUnfitStop}
+use Rattle.corner_view.specs.Seen.{AreCandidates, IsNamed}
+use Rattle.corner_view.specs.Stops.{IsUnfitStop}
 use Rattle.corner_table.specs.Tables.{Lists, lists_of, marks_at, problem_of}
 use Rattle.corner_table.specs.Kept.{IsKept, IsSlot}
 use Rattle.corner_table.specs.Histories.{AreAlike, lists_before}
@@ -16,7 +16,7 @@ use Rattle.corner_table.specs.Invariants.{IsConsistent, IsEarlier, names_of}
 use Rattle.corner_shifts.specs.Shifting.{IsShifted, IsShiftedStop, with_shifted}
 use Rattle.corner_shifts.proofs.Shifts.ShiftGrowths.{IsShiftOf}
 use Rattle.corner_shifts.proofs.Shifts.ShiftKept.{shift_kept}
-use Rattle.corner_table.proofs.Seen.ShiftedLines.{shift_candidates, shift_named}
+use Rattle.corner_view.proofs.Seen.ShiftedLines.{shift_candidates, shift_named}
 use Rattle.corner_shifts.proofs.Shifts.ShiftValues.{shift_marks_at, shift_stop}
 
 shift-of : (t u : Lists) (id : ℕ) (to : Fraction) → IsKept t → fractions.IsKept to → (h : IsShifted id to t u) → IsShiftOf t id h.0 to h.1

@@ -29,23 +29,23 @@ use Rattle.corner_lines.specs.Levels.StayLevels.{turned}
 use Rattle.corner_lines.proofs.Lines.LineUnfits.{line_sum, line_unfit, mark_unfit}
 use Rattle.corner_lines.proofs.ProblemChanges.Shifted.{attr_still, deviation_still, shift-small, shift_line, shift_own, shift_rays}
 use Rattle.corner_shifts.specs.declared.shifting.Growth.{Growth}
-use Rattle.corner_table.specs.declared.table.Owner.{Owner}
-use Rattle.corner_table.specs.declared.table.Owner.TheVariants.{Level as LevelSlot, Attr as AttrSlot, Line as LineSlot}
+use Rattle.corner_view.specs.declared.types.Owner.{Owner}
+use Rattle.corner_view.specs.declared.types.Owner.TheVariants.{Level as LevelSlot, Attr as AttrSlot, Line as LineSlot}
 use Rattle.corner_table.specs.declared.table.Standing.{Standing}
 use Rattle.corner_table.specs.declared.table.TheConstants.{LEVELS}
 use Rattle.corner_table.specs.Tables.{Lists, attr_slot, entry, is_side, line_slot, marks_at, number, problem_of, row_at, slot_at, standing_at, stands_in}
 use Rattle.corner_table.specs.Kept.{IsAttrRow, IsAttrSlot, IsKept, IsLineRow, IsOwned}
-use Rattle.corner_exchange.specs.Stops.{IsUnfitStop}
+use Rattle.corner_view.specs.Stops.{IsUnfitStop}
 use Rattle.corner_exchange.specs.Swaps.Exchanges.{IsWhatOf}
 use Rattle.corner_shifts.specs.Shifting.{AreShifted, IsShiftStop, growth_at, mark_growth, sign_at, sign_there, with_shifted}
-use Rattle.corner_table.specs.Views.{IsNamed}
+use Rattle.corner_view.specs.Seen.{IsNamed}
 use Rattle.corner_table.proofs.Readings.KeptFacts.{filter_same}
 use Rattle.corner_table.proofs.Readings.MarkFacts.{stands_inside}
 use Rattle.corner_exchange.proofs.Pivots.PairFacts.{named_mark, side-stands, sign-times}
 use Rattle.corner_table.proofs.Readings.ReadFacts.{attr_equation, inside_equation}
 use Rattle.corner_shifts.proofs.Shifts.ShiftCosts.{after_corner, unfit_shifted_cost}
 use Rattle.corner_shifts.proofs.Shifts.ShiftGrowths.{IsShiftOf, IsUnfitGrowth, growth_side, level_unfit_growth, number_grows, own_growth, shift_here, shift_line_named, slot_grown, slot_unfit}
-use Rattle.corner_table.proofs.Seen.ShiftedLines.{shift_marks, shift_whole}
+use Rattle.corner_view.proofs.Seen.ShiftedLines.{shift_marks, shift_whole}
 use Rattle.corner_table.proofs.Readings.SlotFacts.{any_is, named_slot}
 use Rattle.corner_shifts.proofs.Stays.StoodLists.{kept_at}
 use Rattle.corner_exchange.proofs.Basics.SumTurns.{ratio-turns, sum-turns, turn, unfit-turns}

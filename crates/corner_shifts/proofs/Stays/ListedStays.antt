@@ -14,7 +14,7 @@ use Rattle.std.specs.List.Sorted.{IsSorted, IsStrictlyIncreasing}
 use Rattle.problem_core.specs.Window.{zero_fraction}
 use Rattle.problem_core.specs.declared.parts.RowName.TheVariants.{Stay as StayOf}
 use Rattle.problem_core.specs.declared.parts.Stay.{Stay}
-use Rattle.corner_table.specs.declared.table.Owner.TheVariants.{Line as LineSlot}
+use Rattle.corner_view.specs.declared.types.Owner.TheVariants.{Line as LineSlot}
 use Rattle.corner_table.specs.Tables.{Lists, problem_of, slot_at, standing_at}
 use Rattle.corner_table.specs.Kept.{AreSlots, IsKept, IsStayOwner}
 use Rattle.corner_table.proofs.Corners.NewTables.{less_or}

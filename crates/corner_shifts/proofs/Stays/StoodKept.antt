@@ -30,11 +30,11 @@ use Rattle.corner_lines.specs.Levels.LevelRows.{HasLevelRow}
 use Rattle.corner_lines.specs.Joins.{HaveStood, with_stays}
 use Rattle.corner_lines.proofs.FrontsStay.{moved_levels_stay}
 use Rattle.corner_lines.proofs.ProblemChanges.MovedStays.{attr_unmoved, held_unmoved, stay-holds, stood_corner, stood_line, stood_rays, stood_stay}
-use Rattle.corner_table.specs.declared.table.Owner.{Owner}
-use Rattle.corner_table.specs.declared.table.Owner.TheVariants.{Level as LevelSlot, Attr as AttrSlot, Line as LineSlot}
+use Rattle.corner_view.specs.declared.types.Owner.{Owner}
+use Rattle.corner_view.specs.declared.types.Owner.TheVariants.{Level as LevelSlot, Attr as AttrSlot, Line as LineSlot}
 use Rattle.corner_table.specs.declared.table.Standing.{Standing}
 use Rattle.corner_table.specs.declared.table.TheConstants.{LEVELS}
-use Rattle.corner_table.specs.Views.{IsMarkOf, IsNamed}
+use Rattle.corner_view.specs.Seen.{IsMarkOf, IsNamed}
 use Rattle.corner_table.specs.Tables.{Lists, attr_slot, entry, is_side, line_slot, marks_at, number, problem_of, slot_at, standing_at, stands_in, stay_rank}
 use Rattle.corner_table.specs.Kept.{AreSlots, HasLevelNumbers, IsAttrRow, IsAttrSlot, IsEquationAt, IsKept, IsLevelKept, IsLineRow, IsLineSlot, IsOwned, home_of}
 use Rattle.corner_shifts.specs.Stood.{HaveFirstStood, IsStoodStay, stay_slot, with_moved}
@@ -43,11 +43,12 @@ use Rattle.corner_table.proofs.Basics.OwnerFacts.{stay_named}
 use Rattle.corner_table.proofs.Basics.SmallFacts.{below_or}
 use Rattle.corner_table.proofs.Readings.KeptFacts.{filter_same, value_kept}
 use Rattle.corner_table.proofs.Readings.MarkFacts.{inside_stands}
-use Rattle.corner_table.proofs.Readings.ReadFacts.{named_in, value_attr, value_inside}
+use Rattle.corner_view.proofs.Facts.{named_in}
+use Rattle.corner_table.proofs.Readings.ReadFacts.{value_attr, value_inside}
 use Rattle.corner_table.proofs.Readings.SlotFacts.{any_is, named_stay}
 use Rattle.corner_shifts.proofs.Stays.StoodLevels.{cost_stood}
 use Rattle.corner_lines.specs.Shifts.{AreSeenAlike}
-use Rattle.corner_table.proofs.Seen.SeenLines.{any_seen, each_seen, lines_alike, map_same, marks_seen, stay_line, sum_seen}
+use Rattle.corner_view.proofs.Seen.SeenLines.{any_seen, each_seen, lines_alike, map_same, marks_seen, stay_line, sum_seen}
 use Rattle.corner_shifts.proofs.Stays.StoodLists.{held_no_stay, level_no_stay, no_first_attr}
 use Rattle.frac_core.proofs.Numbers.{as-natural as above-zero}
 use Rattle.frac_core.proofs.Bools.{not-both as not_both}

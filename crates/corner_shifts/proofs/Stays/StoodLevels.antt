@@ -17,7 +17,7 @@ use Rattle.corner_lines.proofs.ProblemChanges.MovedStays.{stood_points}
 use Rattle.corner_table.specs.declared.table.TheConstants.{LEVELS}
 use Rattle.corner_table.proofs.Basics.StayCosts.{stays_cost}
 use Rattle.corner_lines.specs.Shifts.{AreSeenAlike}
-use Rattle.corner_table.proofs.Seen.SeenLines.{scales_seen}
+use Rattle.corner_view.proofs.Seen.SeenLines.{scales_seen}
 
 -- the rows' cost is told by their marks
 rows_cost : (s k : ℕ) (x y : ℕ → ℤ) (rows : List Row) (xs ys : List Line) → ((id : ℕ) (side : Side) → y (place_of (Held id) side) ≡ x (place_of (Held id) side))

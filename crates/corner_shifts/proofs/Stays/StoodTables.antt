@@ -8,17 +8,18 @@ use Rattle.problem_core.specs.Layout.{Problem}
 use Rattle.problem_core.specs.Corners.{place}
 use Rattle.corner_lines.specs.Joins.{with_stays}
 use Rattle.corner_table.specs.declared.table.Table.{Table}
-use Rattle.corner_table.specs.Views.{AreCandidates, IsNamed}
+use Rattle.corner_view.specs.Seen.{AreCandidates, IsNamed}
 use Rattle.corner_table.specs.Tables.{Lists, lists_of, marks_at, problem_of, standing_at}
 use Rattle.corner_table.specs.Kept.{AreSlots, IsKept, IsSlot}
 use Rattle.corner_table.specs.Histories.{HasSameHistory}
 use Rattle.corner_table.specs.Invariants.{IsConsistent, IsEarlier, names_of, view_of}
-use Rattle.corner_shifts.specs.Stood.{AreFirstStood, HasStood, IsAtRest, IsStoodAt, stay_slot, with_moved, with_present}
+use Rattle.corner_shifts.specs.Stood.{AreFirstStood, IsAtRest, IsStoodAt, stay_slot, with_moved, with_present}
+use Rattle.corner_view.specs.Changes.{HasStood}
 use Rattle.corner_table.proofs.Corners.HistoryFacts.{alike_same, past_same}
-use Rattle.corner_table.proofs.Seen.SeenColumns.{negative_seen}
+use Rattle.corner_view.proofs.Seen.SeenColumns.{negative_seen}
 use Rattle.corner_shifts.proofs.Stays.StoodKept.{attr_same, first_slots, have_stood, named_after, seen_alike, stood_kept, stood_marks}
 use Rattle.corner_lines.specs.Shifts.{AreSeenAlike}
-use Rattle.corner_table.proofs.Seen.SeenLines.{marks_seen}
+use Rattle.corner_view.proofs.Seen.SeenLines.{marks_seen}
 use Rattle.corner_shifts.proofs.Stays.StoodLists.{one_moves, one_rests}
 
 -- ---- the loop

@@ -6,14 +6,15 @@ ghost use Rattle.problem_core.specs.declared.parts.RowName.TheVariants as row_na
 ghost use Rattle.problem_core.specs.declared.parts.Stay as stay_type;
 ghost use Rattle.corner_shifts.specs.Astray.{AreAstray};
 ghost use Rattle.corner_shifts.specs.Stood.{AreFirstStood, IsAtRest, stay_slot};
-ghost use Rattle.corner_table.specs.declared.table.Owner.TheVariants as owner_type;
+ghost use Rattle.corner_view.specs.declared.types.Owner.TheVariants as owner_type;
 ghost use Rattle.corner_table.specs.Histories.{HasSameHistory};
 ghost use Rattle.corner_table.specs.Kept.{AreSlots, IsKept, IsStayOwner};
 ghost use Rattle.corner_table.specs.Tables as tables;
 ghost use Rattle.corner_table.specs.Tables.{lists_of, standing_at};
 
 use crate::standing::{stand_stay, stand_stays};
-use corner_table::{Listed, Owner, Table, slot_at, value_at};
+use corner_table::{Listed, Table, slot_at, value_at};
+use corner_view::Owner;
 use frac_core::OutOfMemory;
 use problem_core::RowName;
 

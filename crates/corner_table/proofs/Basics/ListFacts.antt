@@ -6,10 +6,8 @@ use Rattle.std.proofs.lemmas.Bool.Decides.{eqb_tells}
 use Rattle.problem_core.specs.declared.parts.Mark.{Mark}
 use Rattle.problem_core.specs.declared.parts.RowName.{RowName}
 use Rattle.problem_core.specs.Corners.{HasNegativeColumn}
-use Rattle.problem_core.specs.Layout.{Line, Row, line_of_row}
 use Rattle.corner_table.specs.declared.table.Table.{Table}
-use Rattle.corner_table.specs.Views.{IsNamed}
-use Rattle.corner_table.specs.Views.{HasNoNegative}
+use Rattle.corner_view.specs.Seen.{HasNoNegative, IsNamed}
 use Rattle.row_core.specs.Rows.{Term}
 use Rattle.version_lists.specs.Lists.{HasColumn}
 use Rattle.version_lists.proofs.Relisting.{has_cases, has_left, has_right}
@@ -138,8 +136,3 @@ take_all [] zero le = refl
 take_all [] (suc k) le = refl
 take_all (x ∷ xs) zero le = absurd (omega (arith, le))
 take_all (x ∷ xs) (suc k) le = ap (λ us. x ∷ us) (take_all xs k (omega (arith, le)))
-
--- what holds of each line of rows and of others holds of the others
-pub stays_part : (P : Line → Type 0) (rows : List Row) (ls : List Line) → Each P (map line_of_row rows ++ ls) → Each P ls
-stays_part P [] ls h = h
-stays_part P (r ∷ rows) ls h = stays_part P rows ls h.1

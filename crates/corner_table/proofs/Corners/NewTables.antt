@@ -13,7 +13,7 @@ use Rattle.problem_core.specs.Kept.{IsWhole}
 use Rattle.problem_core.specs.Corners.{IsCorner, Point, StandsAt}
 use Rattle.problem_core.specs.Levels.{IsCostAt}
 use Rattle.corner_lines.proofs.LevelRows.LevelJoins.{empty_level_has_row}
-use Rattle.corner_table.specs.declared.table.Owner.TheVariants.{Level as LevelSlot}
+use Rattle.corner_view.specs.declared.types.Owner.TheVariants.{Level as LevelSlot}
 use Rattle.corner_table.specs.declared.table.Slot.{Slot}
 use Rattle.corner_table.specs.declared.table.Standing.{Standing}
 use Rattle.corner_table.specs.declared.table.Priority.{Priority}

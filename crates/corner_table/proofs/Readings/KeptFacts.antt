@@ -1,5 +1,5 @@
 -- What is kept of a corner's lists, as callers see it: the marks in order, and that each quantity fits.
-use Rattle.std.proofs.Common.{◌≡◌, ◌≢◌, ◌∙◌, ℕ, zero, suc, ◌*◌, Bool, true, false, cond, nat_eq, List, [], ◌∷◌, map, filter, slice_index_or, refl, sym, ap, subst, arith, inl, inr, ◌⊎◌, ℤ, pos, negsuc, neg_ℤ, ◌*ℤ◌, unsigned_abs, All, Contains, Some, None, eq-eqb, ne_eqb}
+use Rattle.std.proofs.Common.{◌≡◌, ◌≢◌, ◌∙◌, ℕ, zero, suc, ◌*◌, Bool, true, cond, nat_eq, List, [], ◌∷◌, map, filter, slice_index_or, refl, sym, ap, subst, arith, inl, inr, ◌⊎◌, ℤ, pos, negsuc, neg_ℤ, ◌*ℤ◌, unsigned_abs, All, Contains, Some, None, ne_eqb}
 use Rattle.std.specs.Int.{◌∣◌, IsGcd}
 use Rattle.std.specs.declared.option.Option.{Option}
 use Rattle.std.specs.List.{AllByRecursion as Each}
@@ -39,34 +39,22 @@ use Rattle.corner_lines.proofs.Lines.MarkForms.{by-places, same-name}
 use Rattle.corner_lines.proofs.Costs.StayFits.{outside_stay_level_fits, stay_level_fits}
 use Rattle.corner_lines.proofs.LevelRows.StayRows.{stay_stands_alone}
 use Rattle.corner_table.specs.declared.table.Standing.{Standing}
-use Rattle.corner_table.specs.Views.{IsKeptCorner, IsNamed, IsSettled, in_order, is_mark}
+use Rattle.corner_view.specs.Seen.{in_order, is_mark, IsKeptCorner, IsNamed, IsSettled}
 use Rattle.corner_table.specs.Tables.{Lists, attr_slot, entry, is_side, line_slot, marks_at, number, problem_of, row_at, scene_at, standing_at, stands_in}
 use Rattle.corner_table.specs.Kept.{HasStayRoom, IsKept, IsLineRow}
 use Rattle.corner_table.specs.Invariants.{IsEarlier}
 use Rattle.corner_table.proofs.Readings.SlotFacts.{any_impl, any_is, level_stay}
-use Rattle.corner_table.proofs.Readings.MarkFacts.{inside_stands, later, stands_inside}
-use Rattle.corner_table.proofs.Readings.ReadFacts.{attr_equation, inside_equation, named_in}
+use Rattle.corner_table.proofs.Readings.MarkFacts.{inside_stands, stands_inside}
+use Rattle.corner_view.proofs.Facts.{in_is, is_in, named_in}
+use Rattle.corner_table.proofs.Readings.ReadFacts.{attr_equation, inside_equation}
 use Rattle.corner_table.proofs.Readings.WritingFacts.{in_mark}
 use Rattle.corner_table.proofs.Basics.ListFacts.{further}
 use Rattle.corner_lines.proofs.Lines.LineUnfits.{twice as sign_twice}
 use Rattle.corner_laws.proofs.MarkWritings.Directions.{each-of}
 use Rattle.frac_core.proofs.Fitting.{neg-fits as opposite_fits}
-use Rattle.frac_core.proofs.Bools.{bools-same as both_ways, or-later as here_or, not-both as not_both}
+use Rattle.frac_core.proofs.Bools.{bools-same as both_ways, not-both as not_both}
 
 -- ---- in order
-
-pub is_in : (ms : List Mark) (c : ℕ) → is_mark ms c ≡ true → IsIn c ms
-is_in [] c e = absurd (not_both false e refl)
-is_in (m ∷ ms) c e =
-    elim (cases_eq (place m) c) [
-      | inl same ↦ (0, omega arith, same)
-      | inr other ↦ later c m ms (is_in ms c (subst (λ (b : Bool). cond b true (is_mark ms c) ≡ true) (ne_eqb (place m) c other) e))
-    ]
-
-pub in_is : (ms : List Mark) (c : ℕ) → IsIn c ms → is_mark ms c ≡ true
-in_is [] c (k, within, is) = absurd (omega (arith, within))
-in_is (m ∷ ms) c (zero, within, is) = ap (λ (b : Bool). cond b true (is_mark ms c)) (eq-eqb (place m) c is)
-in_is (m ∷ ms) c (suc k, within, is) = here_or (nat_eq (place m) c) (is_mark ms c) (in_is ms c (k, omega (arith, within), is))
 
 pub filter_same : {X : Type 0} (p q : X → Bool) (xs : List X) → ((x : X) → Contains xs x → p x ≡ q x) → filter p xs ≡ filter q xs
 filter_same p q [] h = refl

@@ -1,17 +1,13 @@
 -- The marks of a corner's lists.
-use Rattle.std.proofs.Common.{◌≡◌, ℕ, zero, suc, Bool, true, false, cond, List, [], ◌∷◌, filter, refl, sym, ap₂, subst, arith, inl, inr}
+use Rattle.std.proofs.Common.{◌≡◌, ℕ, zero, suc, Bool, true, false, cond, List, [], ◌∷◌, filter, sym, subst, arith, inl, inr}
 use Rattle.std.proofs.lemmas.Bool.{cases_Bool}
 use Rattle.problem_core.specs.declared.parts.Mark.{Mark}
-use Rattle.problem_core.specs.declared.parts.RowName.{RowName}
-use Rattle.problem_core.specs.declared.parts.RowName.TheVariants.{Held, Stay as StayOf}
-use Rattle.problem_core.specs.declared.parts.Side.{Side}
-use Rattle.problem_core.specs.declared.parts.Side.TheVariants.{Under, Over}
 use Rattle.problem_core.specs.Layout.{lines}
-use Rattle.problem_core.specs.Corners.{IsIn, marks_of, place, place_of}
-use Rattle.corner_lines.proofs.Lines.MarkForms.{same-name}
-use Rattle.corner_table.specs.Views.{IsMarkOf}
+use Rattle.problem_core.specs.Corners.{IsIn, marks_of, place}
+use Rattle.corner_view.specs.Seen.{IsMarkOf}
 use Rattle.corner_table.specs.Tables.{Lists, marks_at, problem_of, stands_in}
 use Rattle.frac_core.proofs.Bools.{not-both as not_both}
+use Rattle.corner_view.proofs.Facts.{later, same_mark}
 
 abbrev holds_if : Bool → Type 0
 holds_if true = Unit {0}
@@ -23,9 +19,6 @@ keep p m ms P passed other =
       | inl e ↦ subst (λ (b : Bool). P (cond b (m ∷ filter p ms) (filter p ms))) (sym e) (passed e)
       | inr e ↦ subst (λ (b : Bool). P (cond b (m ∷ filter p ms) (filter p ms))) (sym e) (other e)
     ]
-
-pub later : (c : ℕ) (m : Mark) (ms : List Mark) → IsIn c ms → IsIn c (m ∷ ms)
-later c m ms (k, within, is) = (suc k, omega (arith, within), is)
 
 filter_keeps : (p : Mark → Bool) (ms : List Mark) (c : ℕ) → IsIn c ms → ((m : Mark) → place m ≡ c → p m ≡ true) → IsIn c (filter p ms)
 filter_keeps p [] c (k, within, is) all = absurd (omega (arith, within))
@@ -49,21 +42,6 @@ filter_has p (m ∷ ms) c i =
     keep p m ms (λ us. IsIn c us → HasPassed p c)
     (λ e j. head_or p m (filter p ms) c e (filter_has p ms c) j)
     (λ e j. filter_has p ms c j) i
-
-same_side : (a : RowName) (s t : Side) → place_of a s ≡ place_of a t → s ≡ t
-same_side a Under Under e = refl
-same_side a Over Over e = refl
-same_side (Held id) Under Over e = absurd (omega (arith, e))
-same_side (Held id) Over Under e = absurd (omega (arith, e))
-same_side (StayOf attr) Under Over e = absurd (omega (arith, e))
-same_side (StayOf attr) Over Under e = absurd (omega (arith, e))
-
--- marks with one column are one
-pub same_mark : (m n : Mark) → place m ≡ place n → m ≡ n
-same_mark m n e =
-    let name : m.row ≡ n.row = same-name m.row n.row m.side n.side e in
-    let side : m.side ≡ n.side = same_side n.row m.side n.side (subst (λ (r : RowName). place_of r m.side ≡ place n) name e) in
-    ap₂ (λ (r : RowName) (d : Side). (record { row = r; side = d })) name side
 
 -- a mark is inside where the lists say so
 pub inside_stands : (t : Lists) (m : Mark) → IsIn (place m) (marks_at t) → stands_in t m ≡ true

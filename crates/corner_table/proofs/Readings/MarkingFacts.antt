@@ -7,13 +7,10 @@ use Rattle.problem_core.specs.declared.parts.Side.TheVariants.{Under, Over}
 use Rattle.problem_core.specs.declared.parts.Stay.{Stay}
 use Rattle.problem_core.specs.Layout.{Line, Problem, Row, line_of_row, line_of_stay, stay_lines}
 use Rattle.problem_core.specs.Corners.{marks_of}
-use Rattle.corner_table.specs.Views.{IsNamed}
+use Rattle.corner_view.specs.Seen.{IsNamed}
 use Rattle.corner_table.specs.Tables.{Lists, inside_of, marks_at, marks_over, row_names, stands_in}
 use Rattle.problem_core.proofs.Lines.{past-rows as past}
-
-pub append_more : {X : Type 0} (xs ys zs : List X) → (xs ++ ys) ++ zs ≡ xs ++ (ys ++ zs)
-append_more [] ys zs = refl
-append_more (x ∷ xs) ys zs = ap (λ us. x ∷ us) (append_more xs ys zs)
+use Rattle.corner_view.proofs.Facts.{append_more}
 
 -- one line more
 pub inside_more : (t : Lists) (names more : List RowName) → inside_of t (names ++ more) ≡ inside_of t names ++ inside_of t more

@@ -10,8 +10,8 @@ use Rattle.std.proofs.lemmas.Option.{get_or_from_slice_get, slice_get-get_or, sl
 use Rattle.problem_core.specs.Layout.{HasStay}
 use Rattle.problem_core.specs.Window.{zero_fraction}
 use Rattle.problem_core.specs.declared.parts.Rel.TheVariants.{Eq}
-use Rattle.corner_table.specs.declared.table.Owner.{Owner}
-use Rattle.corner_table.specs.declared.table.Owner.TheVariants.{Level as LevelSlot, Attr as AttrSlot, Line as LineSlot}
+use Rattle.corner_view.specs.declared.types.Owner.{Owner}
+use Rattle.corner_view.specs.declared.types.Owner.TheVariants.{Level as LevelSlot, Attr as AttrSlot, Line as LineSlot}
 use Rattle.corner_table.specs.declared.table.Slot.{Slot}
 use Rattle.corner_table.specs.declared.table.Standing.{Standing}
 use Rattle.corner_table.specs.declared.table.Priority.{Priority}
@@ -24,7 +24,8 @@ use Rattle.corner_table.specs.Tables.{Lists, attr_slot, slot_at, standing_at}
 use Rattle.corner_table.specs.Histories.{AreAlike, lists_before, side_by_side}
 use Rattle.corner_table.specs.Kept.{AreSlots, IsAttrSlot, IsOwned}
 use Rattle.frac_core.specs.Fraction.{Fraction}
-use Rattle.corner_table.specs.Moves.{AreMoved, HasMoved, HasOwnValue, HasStayed, HasValue, HaveOtherSlots, IsListed, IsListedOrStayed, Keeps, Shows, marked_of}
+use Rattle.corner_view.specs.Moves.{AreMoved, HasMoved, HasStayed, Shows}
+use Rattle.corner_table.specs.Moves.{HasOwnValue, HasValue, HaveOtherSlots, IsListed, IsListedOrStayed, Keeps, marked_of}
 use Rattle.corner_table.proofs.Readings.SlotFacts.{any_is}
 
 -- ---- past the end
@@ -411,24 +412,6 @@ all_there old new out places slots_old slots_new others at_places are = record {
   moved = are.moved;
   others = one_or_stayed old new out [] places slots_old slots_new others at_places (λ k d none. absurd (omega (arith, none)))
       (λ k d none. absurd (omega (arith, none))) are.stayed;
-}
-
--- ---- the same told of something else
-
-pub moved_by :
-    {S R F : Type 0} (Has : S → ℕ → F → Type 0) (Other : R → ℕ → F → Type 0) (old new : S) (then now : R) (xs : List ℕ)
-    → ((x : ℕ) (o : Option F) → Shows Has old x o → Shows Other then x o)
-    → ((x : ℕ) (o : Option F) → Shows Has new x o → Shows Other now x o)
-    → AreMoved Has old new xs → AreMoved Other then now xs
-moved_by Has Other old new then now xs of_old of_new are = record {
-  moved = λ k d within.
-      let m = are.moved k d within in
-      (m.0, m.1, of_old (get_or xs k d) m.0 m.2, of_new (get_or xs k d) m.1 m.3, m.4);
-  others = λ x.
-      elim (are.others x) [
-        | inl one ↦ inl one
-        | inr stayed ↦ inr (stayed.0, of_old x stayed.0 stayed.1, of_new x stayed.0 stayed.2)
-      ];
 }
 
 -- ---- the newest mark

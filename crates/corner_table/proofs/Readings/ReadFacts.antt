@@ -1,5 +1,5 @@
 -- Values and writings, as the lists have them.
-use Rattle.std.proofs.Common.{◌≡◌, ◌∙◌, ℕ, zero, suc, true, false, List, [], ◌∷◌, refl, sym, ap, subst, arith, inl, inr, ℤ, pos, ◌*ℤ◌, Any, Some, None}
+use Rattle.std.proofs.Common.{◌≡◌, ◌∙◌, ℕ, true, false, ◌∷◌, refl, sym, ap, subst, ℤ, pos, ◌*ℤ◌, Some, None}
 use Rattle.std.specs.declared.option.Option.{Option}
 use Rattle.frac_core.specs.Fraction.{Fraction}
 use Rattle.frac_core.proofs.Integers.{zero-mul_ℤ}
@@ -7,37 +7,20 @@ use Rattle.problem_core.specs.declared.parts.Mark.{Mark}
 use Rattle.problem_core.specs.declared.parts.RowName.{RowName}
 use Rattle.problem_core.specs.declared.parts.Side.{Side}
 use Rattle.problem_core.specs.declared.parts.Side.TheVariants.{Under, Over}
-use Rattle.problem_core.specs.Layout.{HasStay, Line, Problem, lines}
+use Rattle.problem_core.specs.Layout.{HasStay, lines}
 use Rattle.problem_core.specs.Window.{zero_fraction}
 use Rattle.problem_core.specs.Corners.{IsIn, attr_column, one_column, place}
 use Rattle.corner_laws.proofs.WrittenValues.{nothing_outside}
 use Rattle.corner_lines.specs.LineEquations.{deviation, sign_of}
-use Rattle.corner_lines.proofs.Lines.LineWritings.{Named, line_value, mark-named, mark_value, named-mark}
-use Rattle.corner_table.specs.Views.{HasValueAt, IsMarkOf, IsNamed}
+use Rattle.corner_lines.proofs.Lines.LineWritings.{line_value, mark_value}
+use Rattle.corner_view.specs.Seen.{HasValueAt, IsMarkOf}
 use Rattle.corner_table.specs.Tables.{Lists, attr_slot, is_side, line_slot, marks_at, number, problem_of, same_side, standing_at, stands_in}
 use Rattle.corner_table.specs.Kept.{IsAttrRow, IsEquationAt, IsKept, IsLineRow}
 use Rattle.corner_table.proofs.Readings.SlotFacts.{any_is}
 use Rattle.corner_table.proofs.Readings.MarkFacts.{inside_stands, stands_inside}
 use Rattle.corner_lines.proofs.Lines.LineUnfits.{twice}
 use Rattle.frac_core.proofs.Bools.{not-both as not_both}
-
-named_any : (name : RowName) (ls : List Line) → Named name ls → Any (λ l. l.name ≡ name) ls
-named_any name [] h = absurd h
-named_any name (l ∷ ls) (inl e) = (0, l, omega arith, refl, e)
-named_any name (l ∷ ls) (inr n) = let i = named_any name ls n in (suc i.0, i.1, omega (arith, i.2), i.3, i.4)
-
--- the line of a mark of the problem is one of the problem's
-pub mark_named : (p : Problem) (m : Mark) → IsMarkOf p m → IsNamed p m.row
-mark_named p m is = named_any m.row (lines p) (mark-named p m.row m.side is)
-
-any_named : (name : RowName) (ls : List Line) → Any (λ l. l.name ≡ name) ls → Named name ls
-any_named name [] h = absurd (omega (arith, h.2))
-any_named name (l ∷ ls) (zero, k, within, is, e) = inl (subst (λ (n : Line). n.name ≡ name) (sym is) e)
-any_named name (l ∷ ls) (suc i, k, within, is, e) = inr (any_named name ls (i, k, omega (arith, within), is, e))
-
--- and the marks of such a line are the problem's
-pub named_in : (p : Problem) (name : RowName) (side : Side) → IsNamed p name → IsMarkOf p (record { row = name; side = side })
-named_in p name side named = named-mark p name side (any_named name (lines p) named)
+use Rattle.corner_view.proofs.Facts.{mark_named}
 
 pub same_is : (a b : Side) → same_side a b ≡ true → a ≡ b
 same_is Under Under e = refl

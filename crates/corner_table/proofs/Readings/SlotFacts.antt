@@ -7,7 +7,7 @@ use Rattle.problem_core.specs.Layout.{HasStay, Line, Problem, Row, line_of_row, 
 use Rattle.corner_table.specs.Tables.{Lists, line_slot, problem_of}
 use Rattle.corner_table.specs.Kept.{AreSlots, IsLineSlot, IsSlot}
 use Rattle.problem_core.specs.declared.parts.Level.TheVariants.{Stay as StayLevel}
-use Rattle.corner_table.specs.Views.{IsLevelOf, IsNamed}
+use Rattle.corner_view.specs.Seen.{IsLevelOf, IsNamed}
 use Rattle.problem_core.proofs.RowNames.{held-not-stay as not_held, stay-same as same_attr}
 
 pub any_is : {X : Type 0} {Y : Type 0} (P Q : X → Type 0) (xs : List X) → All P xs → Any Q xs → ((x : X) → P x → Q x → Y) → Y

@@ -15,14 +15,15 @@ use Rattle.corner_laws.proofs.WrittenValues.{contains_each}
 use Rattle.corner_laws.specs.Runs.{other_side}
 use Rattle.corner_lines.specs.LineEquations.{inside_form, mark_form, sign_of}
 use Rattle.corner_lines.proofs.Lines.LineWritings.{inside_coefficients, line_writing, mark_coefficients, mark_writing, other_coefficient}
-use Rattle.corner_table.specs.declared.table.Owner.{Owner}
-use Rattle.corner_table.specs.declared.table.Owner.TheVariants.{Level as LevelSlot, Attr as AttrSlot, Line as LineSlot}
-use Rattle.corner_table.specs.Views.{IsCoefficientOf, IsMarkOf, IsNamed, IsOutside, IsScaleOf, IsWritten}
+use Rattle.corner_view.specs.declared.types.Owner.{Owner}
+use Rattle.corner_view.specs.declared.types.Owner.TheVariants.{Level as LevelSlot, Attr as AttrSlot, Line as LineSlot}
+use Rattle.corner_view.specs.Seen.{IsCoefficientOf, IsMarkOf, IsNamed, IsOutside, IsScaleOf, IsWritten}
 use Rattle.corner_table.specs.Tables.{IsOfLine, Lists, attr_slot, entry, line_slot, marks_at, number, problem_of, sign_of_what, slot_at, standing_at, what_slot}
 use Rattle.corner_table.specs.Kept.{AreSlots, IsAttrSlot, IsHeld, IsKept, IsLineSlot}
 use Rattle.corner_table.proofs.Readings.SlotFacts.{any_is}
 use Rattle.corner_table.proofs.Readings.MarkFacts.{inside_stands}
-use Rattle.corner_table.proofs.Readings.ReadFacts.{attr_equation, inside_equation, mark_named}
+use Rattle.corner_table.proofs.Readings.ReadFacts.{attr_equation, inside_equation}
+use Rattle.corner_view.proofs.Facts.{mark_named}
 use Rattle.corner_lines.proofs.Lines.LineUnfits.{twice}
 
 -- an inside mark is one of the problem

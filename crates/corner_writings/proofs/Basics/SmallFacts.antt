@@ -20,7 +20,3 @@ behind w ws v (suc k, lt, x) never = (k, omega (arith, lt), x)
 
 pub any-with : {X : Type 0} (P Q R : X → Type 0) (xs : List X) → All P xs → Any Q xs → ((x : X) → P x → Q x → R x) → Any R xs
 any-with P Q R xs a h f = (h.0, h.1, h.2, h.3, f h.1 (subst P h.3 (a h.0 h.1 h.2)) h.4)
-
-pub positive_is : (z : ℤ) → pos 0 <ℤ z → (0 < unsigned_abs z) × (pos (unsigned_abs z) ≡ z)
-positive_is (pos n) h = (omega (arith, ints, h), refl)
-positive_is (negsuc n) h = absurd h.lt

@@ -16,7 +16,7 @@ use Rattle.corner_lines.proofs.LevelRows.LevelSound.{whole_is_sound}
 use Rattle.corner_writings.specs.declared.levels.fitting.Draft.{Draft}
 use Rattle.corner_table.specs.Tables.{Lists, line_slot, problem_of, slot_at}
 use Rattle.corner_table.specs.Kept.{AreSlots, IsLineSlot}
-use Rattle.corner_table.specs.Views.{IsNamed}
+use Rattle.corner_view.specs.Seen.{IsNamed}
 use Rattle.corner_table.specs.Reads.LevelNumbers.{IsCounted}
 use Rattle.corner_writings.specs.Fitting.{AreFittingLines, IsFittingLine, either}
 use Rattle.corner_table.proofs.Readings.SlotFacts.{any_is}

@@ -13,15 +13,16 @@ use Rattle.problem_core.specs.declared.parts.Side.TheVariants.{Under, Over}
 use Rattle.problem_core.specs.declared.stops.What.TheVariants.{Mark as MarkOf}
 use Rattle.problem_core.specs.Corners.{IsIn, place}
 use Rattle.corner_lines.specs.LineEquations.{sign_of}
-use Rattle.corner_writings.specs.Growing.{AreGrowersDear, IsRowDear, growing_side}
+use Rattle.corner_view.specs.Growing.{AreGrowersDear}
+use Rattle.corner_writings.specs.Growing.{growing_side, IsRowDear}
 use Rattle.corner_table.specs.Kept.{IsKept}
 use Rattle.corner_table.specs.Reads.LevelNumbers.{IsSlotOfLine, reduced_at}
 use Rattle.corner_table.specs.Tables.{Lists, entry, level_slot, line_slot, marks_at, problem_of, row_at}
-use Rattle.corner_table.specs.Views.{IsLevelOf, IsNamed, IsOutside}
+use Rattle.corner_view.specs.Seen.{IsLevelOf, IsNamed, IsOutside}
 use Rattle.corner_writings.proofs.Readings.EntryFacts.{entry_named, entry_outside, entry_slot, entry_there, owned_named, row_in, row_kept, slot_in}
 use Rattle.corner_writings.proofs.LevelFacts.LevelReadFacts.{named_line_slot}
 use Rattle.corner_writings.proofs.LevelFacts.LevelWrittenFacts.{has_reduced}
-use Rattle.corner_table.proofs.Readings.ReadFacts.{mark_named, named_in}
+use Rattle.corner_view.proofs.Facts.{mark_named, named_in}
 use Rattle.corner_table.proofs.Readings.WritingFacts.{in_mark, lines_apart, other_what}
 
 -- ---- one entry

@@ -20,7 +20,7 @@ use Rattle.corner_lines.proofs.Costs.StayFits.{inside_stay_costs, no-cost}
 use Rattle.corner_lines.proofs.LevelRows.StayRows.{stay_stands_alone}
 use Rattle.corner_table.specs.Tables.{Lists, attr_slot, level_slot, line_slot, marks_at, number, problem_of, standing_at}
 use Rattle.corner_table.specs.Kept.{IsKept, IsLineRow}
-use Rattle.corner_table.specs.Views.{IsNamed}
+use Rattle.corner_view.specs.Seen.{IsNamed}
 use Rattle.corner_table.specs.Reads.LevelNumbers.{IsSlotOfLevel}
 use Rattle.corner_table.proofs.Readings.SlotFacts.{any_impl, any_is}
 use Rattle.corner_writings.proofs.LevelFacts.LevelNumberFacts.{named_line}

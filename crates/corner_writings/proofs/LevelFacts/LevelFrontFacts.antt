@@ -13,7 +13,7 @@ use Rattle.problem_core.specs.Layout.{lines}
 use Rattle.problem_core.specs.Levels.{IsLevelAt}
 use Rattle.corner_laws.proofs.Counting.{head_pairs}
 use Rattle.corner_lines.specs.LineEquations.{sign_of}
-use Rattle.corner_table.specs.declared.table.Owner.TheVariants.{Line as LineSlot}
+use Rattle.corner_view.specs.declared.types.Owner.TheVariants.{Line as LineSlot}
 use Rattle.corner_table.specs.declared.table.TheConstants.{LEVELS}
 use Rattle.corner_table.specs.Tables.{Lists, entry, level_slot, line_slot, problem_of, slot_at, standing_at}
 use Rattle.corner_table.specs.Kept.{HasCost, IsKept, IsOwned, IsStayOwner}

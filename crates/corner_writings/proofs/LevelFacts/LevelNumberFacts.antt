@@ -18,7 +18,7 @@ use Rattle.problem_core.specs.declared.limits.TheConstants.{WEIGHT_LIMIT}
 use Rattle.corner_lines.proofs.LevelRows.LevelSound.{whole_is_sound}
 use Rattle.corner_table.specs.Tables.{Lists, line_slot, problem_of, slot_at}
 use Rattle.corner_table.specs.Kept.{IsKept, IsLineSlot, home_of}
-use Rattle.corner_table.specs.Views.{IsNamed}
+use Rattle.corner_view.specs.Seen.{IsNamed}
 use Rattle.corner_table.specs.Reads.LevelNumbers.{IsSlotOfLevel, IsSlotOfLine}
 use Rattle.corner_table.proofs.Readings.SlotFacts.{any_impl, any_is}
 use Rattle.frac_core.proofs.Lists.{each-joined}

@@ -25,7 +25,7 @@ use Rattle.corner_lines.proofs.LevelRows.StayRows.{stay_stands_alone}
 use Rattle.corner_table.specs.declared.table.Slot.{Slot}
 use Rattle.corner_table.specs.Tables.{Lists, attr_slot, level_slot, line_slot, problem_of, slot_at, standing_at}
 use Rattle.corner_table.specs.Kept.{IsKept, home_of}
-use Rattle.corner_table.specs.Views.{IsNamed}
+use Rattle.corner_view.specs.Seen.{IsNamed}
 use Rattle.corner_table.specs.Reads.LevelNumbers.{IsCost, IsCounted, IsLevelSlot, IsLinesSlot, IsSlotOfLevel, IsSlotOfLine, count_of, own_at, own_cost, reduced_at, share_of, side_share, times_at, times_by, unit_at}
 use Rattle.corner_table.proofs.Readings.SlotFacts.{any_impl, any_is, named_slot}
 use Rattle.corner_table.proofs.Readings.WritingFacts.{lines_apart}

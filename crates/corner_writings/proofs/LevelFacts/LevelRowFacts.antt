@@ -24,7 +24,7 @@ use Rattle.corner_lines.proofs.LevelRows.StayRows.{inside_stay_has_row, outside_
 use Rattle.corner_table.specs.declared.table.TheConstants.{LEVELS}
 use Rattle.corner_table.specs.Tables.{Lists, attr_slot, entry, is_side, level_slot, line_slot, marks_at, number, priority_at, problem_of, standing_at, stands_in}
 use Rattle.corner_table.specs.Kept.{HasStayRoom, IsEquationAt, IsKept, level_own}
-use Rattle.corner_table.specs.Views.{IsMarkOf, IsNamed}
+use Rattle.corner_view.specs.Seen.{IsMarkOf, IsNamed}
 use Rattle.corner_table.specs.Reads.LevelNumbers.{IsSlotOfLevel, outside_times, own_at, own_inside, turned_inside, unit_at}
 use Rattle.corner_table.proofs.Readings.SlotFacts.{any_impl, any_is, level_stay, named_slot}
 use Rattle.corner_table.proofs.Readings.MarkFacts.{inside_stands, stands_inside}

@@ -9,28 +9,28 @@ use Rattle.problem_core.specs.declared.parts.RowName.TheVariants.{Stay as StayOf
 use Rattle.problem_core.specs.declared.parts.Level.{Level}
 use Rattle.problem_core.specs.declared.parts.Level.TheVariants.{Priority, Stay as StayLevel}
 use Rattle.problem_core.specs.declared.parts.Stay.{Stay}
-use Rattle.problem_core.specs.Layout.{Line, Problem, Row, line_of_row, lines, stay_lines}
+use Rattle.problem_core.specs.Layout.{Line, Row, line_of_row, lines, stay_lines}
 use Rattle.problem_core.specs.Levels.{IsLevelAt}
 use Rattle.row_core.specs.Rows.{Term, coefficient}
 use Rattle.corner_laws.proofs.Counting.{head_pairs}
-use Rattle.corner_writings.specs.declared.levels.Front.{Front}
-use Rattle.corner_table.specs.declared.table.Owner.{Owner}
-use Rattle.corner_table.specs.declared.table.Owner.TheVariants.{Line as LineSlot}
+use Rattle.corner_view.specs.declared.types.Front.{Front}
+use Rattle.corner_view.specs.declared.types.Owner.{Owner}
+use Rattle.corner_view.specs.declared.types.Owner.TheVariants.{Line as LineSlot}
 use Rattle.corner_table.specs.declared.table.TheConstants.{LEVELS}
 use Rattle.corner_table.specs.Tables.{Lists, entry, level_slot, line_slot, marks_at, problem_of, slot_at, stay_rank}
 use Rattle.corner_table.specs.Kept.{HasCost, IsKept, IsStayOwner}
-use Rattle.corner_table.specs.Views.{IsInUse, IsLevelOf, IsMarkOf, IsNamed, IsReducedAt}
-use Rattle.corner_writings.specs.Fronts.{IsFrontOf}
+use Rattle.corner_view.specs.Seen.{IsInUse, IsLevelOf, IsMarkOf, IsNamed, IsReducedAt}
+use Rattle.corner_view.specs.Fronts.{IsFrontOf}
 use Rattle.corner_table.specs.Reads.LevelNumbers.{HasReducedAt, IsFirstSlot, IsLevelThere, reduced_at}
 use Rattle.corner_table.proofs.Readings.SlotFacts.{any_impl}
-use Rattle.corner_table.proofs.Readings.ReadFacts.{mark_named}
+use Rattle.corner_view.proofs.Facts.{mark_named, past-rows, tail-level, used_level}
 use Rattle.corner_writings.proofs.LevelFacts.LevelNumberFacts.{IsKnown, all-known, home_is, named_line}
 use Rattle.corner_writings.proofs.LevelFacts.LevelReadFacts.{same_level}
 use Rattle.corner_writings.proofs.LevelFacts.LevelFrontFacts.{in_column}
 use Rattle.corner_writings.proofs.LevelFacts.LevelWrittenFacts.{has_reduced}
 use Rattle.corner_writings.proofs.Basics.SmallFacts.{any-with}
 use Rattle.frac_core.proofs.Lists.{any-later as later-any, pairs-rest as tail_pairs}
-use Rattle.problem_core.proofs.RowNames.{held-not-stay as not-held, stay-same as same-attr}
+use Rattle.problem_core.proofs.RowNames.{stay-same as same-attr}
 use Rattle.corner_writings.proofs.Basics.SmallFacts.{zero_unless as is_zero}
 
 -- ---- rows of a level
@@ -72,19 +72,6 @@ cost_slot t (StayLevel attr) kept is =
 pub no_front : (t : Lists) (m : Mark) → IsKept t → IsMarkOf (problem_of t) m → ((l : ℕ) → HasReducedAt t (line_slot t m.row) m.side l → ⊥) → (level : Level) → IsLevelOf (problem_of t) level → IsReducedAt (problem_of t) (marks_at t) level m (pos 0)
 no_front t m kept mark none level is =
     subst (IsReducedAt (problem_of t) (marks_at t) level m) (is_zero (reduced_at t (level_slot t level) (line_slot t m.row) m.side) (λ ne. none (level_slot t level) (cost_slot t level kept is, ne))) (has_reduced t level m kept is mark)
-
-pub used_level : (p : Problem) (level : Level) → IsInUse p level → IsLevelOf p level
-used_level p level use-of = (use-of.1.level, use-of.4)
-
-pub past-rows : (a j : ℕ) (rows : List Row) (rest : List Line) → Any (λ l. (l.name ≡ StayOf a) × (l.level ≡ j)) (map line_of_row rows ++ rest) → Any (λ l. (l.name ≡ StayOf a) × (l.level ≡ j)) rest
-past-rows a j [] rest h = h
-past-rows a j (r ∷ rows) rest (zero, x, w, e, h) = absurd (not-held r.id a (ap (λ (l : Line). l.name) e ∙ h.0))
-past-rows a j (r ∷ rows) rest (suc n, x, w, e, h) = past-rows a j rows rest (n, x, omega (arith, w), e, h)
-
-pub tail-level : (a j base : ℕ) (stays : List Stay) → Any (λ l. (l.name ≡ StayOf a) × (l.level ≡ j)) (stay_lines base stays) → base ≤ j
-tail-level a j base [] (n, x, w, e, h) = absurd (omega (arith, w))
-tail-level a j base (s ∷ stays) (zero, x, w, e, h) = let k : base ≡ j = ap (λ (l : Line). l.level) e ∙ h.1 in omega (arith, k)
-tail-level a j base (s ∷ stays) (suc n, x, w, e, h) = let k = tail-level a j (base + 1) stays (n, x, omega (arith, w), e, h) in omega (arith, k)
 
 tail-above : (t : Lists) (b k base : ℕ) (stays : List Stay) → Each (λ s. LEVELS ≤ stay_rank t s.attr) stays → Any (λ l. (l.name ≡ StayOf b) × (l.level ≡ k)) (stay_lines base stays) → LEVELS ≤ stay_rank t b
 tail-above t b k base [] all (n, x, w, e, h) = absurd (omega (arith, w))

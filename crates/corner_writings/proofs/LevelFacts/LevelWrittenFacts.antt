@@ -26,10 +26,10 @@ use Rattle.corner_lines.proofs.LevelRows.LevelSound.{whole_is_sound}
 use Rattle.corner_table.specs.declared.table.Slot.{Slot}
 use Rattle.corner_table.specs.Tables.{Lists, level_slot, line_slot, marks_at, problem_of, slot_at, standing_at}
 use Rattle.corner_table.specs.Kept.{IsKept}
-use Rattle.corner_table.specs.Views.{HasNumbers, IsLevelOf, IsMarkOf, IsNamed, IsReducedAt}
+use Rattle.corner_view.specs.Seen.{HasNumbers, IsLevelOf, IsMarkOf, IsNamed, IsReducedAt}
 use Rattle.corner_table.specs.Reads.LevelNumbers.{IsSlotOfLevel, count_of, inside_times, outside_times, own_at, own_cost, reduced_at, share_of, side_share, times_at, times_by, unit_at}
 use Rattle.corner_table.proofs.Readings.SlotFacts.{any_is}
-use Rattle.corner_table.proofs.Readings.ReadFacts.{mark_named}
+use Rattle.corner_view.proofs.Facts.{mark_named}
 use Rattle.corner_writings.proofs.LevelFacts.LevelNumberFacts.{IsKnown, all-known, home_is}
 use Rattle.corner_writings.proofs.LevelFacts.LevelReadFacts.{same_level, same_slot}
 use Rattle.corner_writings.proofs.LevelFacts.LevelRowFacts.{HasRow, in_line, level_row, out_line}

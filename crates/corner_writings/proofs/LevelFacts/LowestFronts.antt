@@ -12,12 +12,12 @@ use Rattle.corner_table.specs.declared.table.Slot.{Slot}
 use Rattle.corner_table.specs.declared.table.TheConstants.{LEVELS, OWN_RANK}
 use Rattle.corner_table.specs.Tables.{Lists, entry, line_slot, problem_of, slot_at, standing_at}
 use Rattle.corner_table.specs.Kept.{HasCost, IsKept}
-use Rattle.corner_table.specs.Views.{IsMarkOf}
+use Rattle.corner_view.specs.Seen.{IsMarkOf}
 use Rattle.corner_table.specs.Reads.LevelNumbers.{HasReducedAt, IsFirstSlot, IsSlotOfLine, own_at, own_cost, reduced_at, share_of, side_share, times_at, unit_at}
 use Rattle.corner_writings.specs.Fitting.{counted}
 use Rattle.corner_writings.specs.declared.levels.LevelRead.{LevelRead}
 use Rattle.corner_writings.specs.Walks.{IsLevelRead, IsLowestCost, IsNextCost, IsNoneAbove, IsNoneBelow, IsStrongestAt, IsStrongestOf, cost_by, dear_side}
-use Rattle.corner_table.proofs.Readings.ReadFacts.{mark_named}
+use Rattle.corner_view.proofs.Facts.{mark_named}
 use Rattle.corner_writings.proofs.LevelFacts.ColumnFronts.{lower_slot}
 use Rattle.corner_writings.proofs.LevelFacts.LevelFrontFacts.{before_in, in_column, none_in}
 use Rattle.corner_writings.proofs.LevelFacts.LevelReadFacts.{home_level, named_line_slot, nothing_elsewhere, reduced_elsewhere}

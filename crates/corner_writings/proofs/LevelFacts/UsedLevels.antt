@@ -12,9 +12,10 @@ use Rattle.problem_core.specs.Levels.{IsLevelAt}
 use Rattle.corner_table.specs.declared.table.TheConstants.{LEVELS}
 use Rattle.corner_table.specs.Tables.{Lists, level_slot, priority_at, problem_of, slot_at}
 use Rattle.corner_table.specs.Kept.{IsKept}
-use Rattle.corner_table.specs.Views.{IsInUse, IsStronger}
+use Rattle.corner_view.specs.Seen.{IsInUse, IsStronger}
 use Rattle.corner_writings.proofs.LevelFacts.LevelReadFacts.{same_level, same_slot}
-use Rattle.corner_writings.proofs.LevelFacts.LevelUseFacts.{past-rows, slots_in_order, some-row, tail-level, used_level}
+use Rattle.corner_view.proofs.Facts.{past-rows, tail-level, used_level}
+use Rattle.corner_writings.proofs.LevelFacts.LevelUseFacts.{slots_in_order, some-row}
 use Rattle.corner_table.proofs.Corners.NewTables.{less_or}
 use Rattle.corner_table.proofs.Readings.SlotFacts.{any_impl}
 use Rattle.problem_core.proofs.Lines.{later-line as before-rows}

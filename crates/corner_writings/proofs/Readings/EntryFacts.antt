@@ -14,21 +14,22 @@ use Rattle.problem_core.specs.declared.parts.Side.TheVariants.{Under}
 use Rattle.problem_core.specs.declared.stops.What.TheVariants.{Mark as MarkOf}
 use Rattle.problem_core.specs.Corners.{IsIn, place}
 use Rattle.corner_lines.specs.LineEquations.{sign_of}
-use Rattle.corner_table.specs.declared.table.Owner.{Owner}
-use Rattle.corner_table.specs.declared.table.Owner.TheVariants.{Line as LineSlot}
+use Rattle.corner_view.specs.declared.types.Owner.{Owner}
+use Rattle.corner_view.specs.declared.types.Owner.TheVariants.{Line as LineSlot}
 use Rattle.corner_table.specs.declared.table.Table.{Table}
-use Rattle.corner_table.specs.Views.{CornerView, IsNamed, IsOutside}
-use Rattle.corner_writings.specs.Entries.{AreBothOutside, AreEntries, HasEntry}
+use Rattle.corner_view.specs.Seen.{CornerView, IsNamed, IsOutside}
+use Rattle.corner_view.specs.Entries.{AreBothOutside, AreEntries, HasEntry}
 use Rattle.corner_table.specs.Tables.{Lists, entry, line_slot, lists_of, marks_at, problem_of, row_at, slot_at, standing_at}
 use Rattle.corner_writings.specs.Entries.{columns_but}
 use Rattle.corner_table.specs.Kept.{IsKept, IsOwned, IsSlot}
 use Rattle.corner_table.specs.Invariants.{name_of, seen_of, view_of}
 use Rattle.corner_table.proofs.Basics.ListFacts.{all_from, from_map, further, get_mapped, to_map}
 use Rattle.corner_table.proofs.Readings.MarkFacts.{inside_stands}
-use Rattle.corner_table.proofs.Readings.ReadFacts.{inside_equation, is_some, mark_named, named_in}
+use Rattle.corner_table.proofs.Readings.ReadFacts.{inside_equation, is_some}
+use Rattle.corner_view.proofs.Facts.{mark_named, moves_where, named_in}
 use Rattle.corner_table.proofs.Readings.SlotFacts.{named_slot}
 use Rattle.corner_table.proofs.Readings.WritingFacts.{in_mark, line_owner, lines_apart, other_what}
-use Rattle.corner_writings.proofs.Readings.MoverFacts.{by_images, filter_has, moves_where}
+use Rattle.corner_writings.proofs.Readings.MoverFacts.{by_images, filter_has}
 use Rattle.std.proofs.lemmas.List.Elements.{filter_passes}
 use Rattle.corner_table.proofs.Readings.KeptFacts.{filter_same}
 use Rattle.corner_writings.proofs.Readings.FreeSlots.{free_line}

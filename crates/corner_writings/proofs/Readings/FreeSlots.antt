@@ -2,12 +2,12 @@
 use Rattle.std.proofs.Common.{◌≡◌, ◌≢◌, ℕ, ◌≤◌, ap, pos}
 use Rattle.row_core.specs.Rows.{coefficient}
 use Rattle.problem_core.specs.declared.parts.RowName.{RowName}
-use Rattle.corner_table.specs.declared.table.Owner.TheVariants.{Level as LevelSlot, Line as LineSlot}
+use Rattle.corner_view.specs.declared.types.Owner.TheVariants.{Level as LevelSlot, Line as LineSlot}
 use Rattle.corner_table.specs.declared.table.TheConstants.{LEVELS}
 use Rattle.corner_table.specs.Invariants.{name_of}
 use Rattle.corner_table.specs.Kept.{AreSlots, AreStored}
 use Rattle.corner_table.specs.Tables.{Lists, entry, problem_of, slot_at}
-use Rattle.corner_table.specs.Views.{IsNamed}
+use Rattle.corner_view.specs.Seen.{IsNamed}
 use Rattle.std.proofs.Common.{subst, sym}
 use Rattle.corner_table.proofs.Basics.OwnerFacts.{line-owned, line-like}
 

@@ -1,5 +1,5 @@
 -- The lines that are listed for negative values.
-use Rattle.std.proofs.Common.{◌≡◌, ◌≢◌, ◌∙◌, ◌⊎◌, inl, inr, ℕ, zero, suc, ◌+◌, ◌<◌, ◌≤◌, ◌++◌, List, [], ◌∷◌, length, slice_index_or, ℤ, pos, negsuc, ◌≤ℤ◌, ◌<ℤ◌, refl, sym, ap, subst, arith, All, Contains, Some, None}
+use Rattle.std.proofs.Common.{◌≡◌, ◌≢◌, ◌∙◌, ◌⊎◌, inl, inr, ℕ, zero, suc, ◌+◌, ◌<◌, ◌≤◌, ◌++◌, List, [], ◌∷◌, length, slice_index_or, pos, ◌≤ℤ◌, ◌<ℤ◌, refl, sym, ap, subst, arith, All, Contains, Some, None}
 use Rattle.std.proofs.lemmas.List.Elements.{All-contains, All-push, Contains-append_left, Contains-push}
 use borrow.Author.Differences.{ints}
 use Rattle.problem_core.specs.declared.parts.Mark.{Mark}
@@ -8,25 +8,23 @@ use Rattle.problem_core.specs.declared.parts.Side.{Side}
 use Rattle.problem_core.specs.declared.stops.What.{What}
 use Rattle.problem_core.specs.declared.stops.What.TheVariants.{Attr as AttrOf, Mark as MarkOf, Level as LevelOf}
 use Rattle.problem_core.specs.Corners.{IsIn, place}
-use Rattle.corner_table.specs.declared.table.Owner.{Owner}
-use Rattle.corner_table.specs.declared.table.Owner.TheVariants.{Level as LevelSlot, Attr as AttrSlot, Line as LineSlot}
-use Rattle.corner_table.specs.Views.{IsNamed}
+use Rattle.corner_view.specs.declared.types.Owner.{Owner}
+use Rattle.corner_view.specs.declared.types.Owner.TheVariants.{Level as LevelSlot, Attr as AttrSlot, Line as LineSlot}
+use Rattle.corner_view.specs.Seen.{IsNamed}
 use Rattle.corner_table.specs.Tables.{AreMoved, Lists, entry, line_slot, marks_at, problem_of, slot_at, standing_at}
 use Rattle.corner_table.specs.Invariants.{name_of}
 use Rattle.corner_table.specs.Kept.{IsKept, IsOwned, IsSlot}
-use Rattle.corner_writings.specs.Lows.{IsListedIfLow, IsLowSlot, HasSide, ListsLow, ListsSlot, ListsSlots, name_at}
+use Rattle.corner_view.specs.Lows.{IsListedIfLow, ListsLow}
+use Rattle.corner_writings.specs.Lows.{HasSide, IsLowSlot, ListsSlot, ListsSlots, name_at}
 use Rattle.corner_table.proofs.Basics.OwnerFacts.{stay_named}
 use Rattle.corner_writings.proofs.Readings.FreeSlots.{not_free}
 use Rattle.corner_table.proofs.Readings.MarkFacts.{inside_stands}
 use Rattle.corner_writings.proofs.Readings.MovedFacts.{moves_entry, none_some, only_other}
-use Rattle.corner_table.proofs.Readings.ReadFacts.{inside_equation, is_some, mark_named, value_inside}
+use Rattle.corner_table.proofs.Readings.ReadFacts.{inside_equation, is_some, value_inside}
+use Rattle.corner_view.proofs.Facts.{mark_named, up_or_low}
 use Rattle.corner_table.proofs.Readings.SlotFacts.{named_slot}
 use Rattle.corner_table.proofs.Readings.WritingFacts.{in_mark, line_owner}
 use Rattle.frac_core.proofs.Numbers.{less-or-here as before_or_here}
-
-pub up_or_low : (z : ℤ) → (pos 0 ≤ℤ z) ⊎ (z <ℤ pos 0)
-up_or_low (pos n) = inl (omega (arith, ints))
-up_or_low (negsuc n) = inr (omega (arith, ints))
 
 -- ---- one slot more
 

@@ -17,22 +17,23 @@ use Rattle.problem_core.specs.declared.stops.What.TheVariants.{Attr as AttrOf, M
 use Rattle.problem_core.specs.Corners.{IsIn, attr_column, place, place_of}
 use Rattle.corner_laws.specs.Runs.{other_side}
 use Rattle.corner_lines.specs.LineEquations.{sign_of}
-use Rattle.corner_table.specs.declared.table.Owner.{Owner}
-use Rattle.corner_table.specs.declared.table.Owner.TheVariants.{Level as LevelSlot, Attr as AttrSlot, Line as LineSlot}
+use Rattle.corner_view.specs.declared.types.Owner.{Owner}
+use Rattle.corner_view.specs.declared.types.Owner.TheVariants.{Level as LevelSlot, Attr as AttrSlot, Line as LineSlot}
 use Rattle.corner_table.specs.declared.table.Slot.{Slot}
 use Rattle.corner_table.specs.declared.table.TheConstants.{LEVELS}
-use Rattle.corner_table.specs.Views.{AreMovers, IsNamed, IsOutside, IsWritten, MovesWith, owner_of}
+use Rattle.corner_view.specs.Seen.{AreMovers, IsNamed, IsOutside, IsWritten, MovesWith, owner_of}
 use Rattle.corner_table.specs.Tables.{AreMoved, IsOfLine, Lists, lists_of, attr_slot, entry, is_side, line_slot, marks_at, problem_of, sign_of_what, slot_at, standing_at, stands_in, what_slot}
 use Rattle.corner_table.specs.Kept.{AreSlots, IsAttrSlot, IsKept, IsLineRow, IsOwned, IsSlot}
 use Rattle.corner_table.specs.declared.table.Table.{Table}
 use Rattle.corner_table.specs.Invariants.{order_of, seen_of, view_of}
 use Rattle.corner_table.proofs.Readings.SlotFacts.{any_is, named_slot}
 use Rattle.corner_table.proofs.Readings.MarkFacts.{inside_stands, stands_inside}
-use Rattle.corner_table.proofs.Readings.ReadFacts.{inside_equation, is_some, mark_named, named_in}
+use Rattle.corner_table.proofs.Readings.ReadFacts.{inside_equation, is_some}
+use Rattle.corner_view.proofs.Facts.{mark_named, moves_where, named_in}
 use Rattle.corner_table.proofs.Readings.WritingFacts.{attr_apart, attr_owner, in_mark, is_other, line_owner, lines_apart, other_what, own_what}
 use Rattle.corner_table.proofs.Basics.ListFacts.{all_from, from_map, further, get_mapped, to_map}
 use Rattle.corner_writings.proofs.Readings.FreeSlots.{free_line, not_free}
-use Rattle.corner_writings.proofs.Readings.MoverFacts.{AreAt, has_where, in_slots, moves_where, none_false, one_list}
+use Rattle.corner_writings.proofs.Readings.MoverFacts.{AreAt, has_where, in_slots, none_false, one_list}
 use Rattle.corner_writings.proofs.LevelFacts.LevelCostFacts.{line_row as row_of_line}
 use Rattle.frac_core.proofs.Bools.{not-both as not_both, or-later as here_or}
 use Rattle.frac_core.proofs.Lists.{length-mapped as map_length}

@@ -1,5 +1,5 @@
 -- What moves with an outside mark: where it stands in the rows.
-use Rattle.std.proofs.Common.{◌≡◌, ◌≢◌, ◌∙◌, ℕ, zero, suc, ◌+◌, ◌<◌, ◌≤◌, Bool, true, false, cond, List, [], ◌∷◌, map, filter, length, drop, slice_index_or, refl, sym, ap, ap₂, subst, arith, inl, inr, ℤ, pos, negsuc, ◌*ℤ◌, ◌<ℤ◌, All, AllPairs, Contains}
+use Rattle.std.proofs.Common.{◌≡◌, ◌≢◌, ◌∙◌, ℕ, zero, suc, ◌+◌, ◌<◌, ◌≤◌, Bool, true, false, cond, List, [], ◌∷◌, map, filter, length, drop, slice_index_or, refl, sym, ap, ap₂, subst, arith, inl, inr, ℤ, pos, ◌*ℤ◌, ◌<ℤ◌, All, AllPairs, Contains}
 use Rattle.std.specs.List.{AllByRecursion as Each}
 use Rattle.std.specs.List.Sorted.{IsNonDecreasingBy}
 use Rattle.std.proofs.lemmas.Bool.{cases_eq, cases_lt}
@@ -11,10 +11,9 @@ use Rattle.problem_core.specs.declared.stops.What.{What}
 use Rattle.problem_core.specs.declared.stops.What.TheVariants.{Attr as AttrOf, Mark as MarkOf, Level as LevelOf}
 use Rattle.problem_core.specs.Layout.{Problem, coefficient}
 use Rattle.problem_core.specs.Corners.{IsCorner, place}
-use Rattle.problem_core.specs.Rays.{HasRays}
 use Rattle.corner_laws.proofs.MarkWritings.Directions.{writing_moves}
-use Rattle.corner_table.specs.declared.table.Owner.{Owner}
-use Rattle.corner_table.specs.Views.{AreMovers, CornerView, IsCoefficientOf, IsColumnOf, IsOutside, MovesWith, owner_of}
+use Rattle.corner_view.specs.declared.types.Owner.{Owner}
+use Rattle.corner_view.specs.Seen.{AreMovers, CornerView, IsCoefficientOf, IsColumnOf, MovesWith, owner_of}
 use Rattle.corner_table.proofs.Basics.ListFacts.{from_map, further, to_map}
 use Rattle.corner_table.proofs.Readings.KeptFacts.{filter_same}
 use Rattle.corner_writings.proofs.Basics.SmallFacts.{behind}
@@ -31,18 +30,6 @@ one_column p at (LevelOf level) c d h k = absurd h
 
 stands_still : (s : ℕ) (y z v : ℤ) → 0 < s → pos s *ℤ y ≡ z *ℤ v → z ≡ pos 0 → y ≡ pos 0
 stands_still s y z v above e none = cancel_mul s y (pos 0) above (e ∙ ap (λ (k : ℤ). k *ℤ v) none ∙ zero-mul_ℤ v ∙ sym (mul-zero_ℤ (pos s)))
-
-moves_not : (s : ℕ) (y z v : ℤ) → pos 0 <ℤ v → pos s *ℤ y ≡ z *ℤ v → y ≡ pos 0 → z ≡ pos 0
-moves_not s y z (pos zero) above e none = absurd above.lt
-moves_not s y z (pos (suc n)) above e none =
-    cancel_mul (suc n) z (pos 0) (omega arith) (*ℤ_comm (pos (suc n)) z ∙ sym e ∙ ap (λ (k : ℤ). pos s *ℤ k) none ∙ mul-zero_ℤ (pos s) ∙ sym (mul-zero_ℤ (pos (suc n))))
-moves_not s y z (negsuc n) above e none = absurd above.lt
-
--- what has a coefficient moves
-pub moves_where : (p : Problem) (at : List Mark) (m : Mark) (what : What) (z : ℤ) → IsCorner p at → HasRays p at → IsOutside p at m → IsCoefficientOf p at what m z → z ≢ pos 0 → MovesWith p at m what
-moves_where p at m what z corner rays out (c, column, (scale, form, value, writing, same)) ne =
-    let r = rays (place m) out.0 out.1 in
-    (c, column, (r.0, r.1, λ e. ne (same ∙ moves_not scale (r.0 c) (coefficient (place m) form) (r.0 (place m)) r.1.here (writing_moves p at c scale form value.num value.den (place m) r.0 corner writing r.1) e)))
 
 pub has_where : (p : Problem) (at : List Mark) (m : Mark) (what : What) (z : ℤ) → IsCorner p at → IsCoefficientOf p at what m z → MovesWith p at m what → z ≢ pos 0
 has_where p at m what z corner (c, column, (scale, form, value, writing, same)) (d, there, (ray, is, ne)) none =

@@ -8,23 +8,17 @@ ghost use Rattle.corner_table.specs.Reads.LevelNumbers as numbers;
 ghost use Rattle.corner_table.specs.Reads.LevelNumbers.{IsCost, IsLevelSlot, IsLinesSlot, IsSlotOfLine};
 ghost use Rattle.corner_table.specs.Tables as tables;
 ghost use Rattle.corner_table.specs.Tables.{lists_of, marks_at, problem_of};
-ghost use Rattle.corner_table.specs.Views.{IsMarkOf, IsNamed};
+ghost use Rattle.corner_view.specs.Seen.{IsMarkOf, IsNamed};
 ghost use Rattle.corner_writings.specs.Fitting.{counted};
-ghost use Rattle.corner_writings.specs.Fronts.{AreFrontsOf, IsFoundOf};
+ghost use Rattle.corner_view.specs.Fronts.{AreFrontsOf, IsFoundOf};
 ghost use Rattle.corner_writings.specs.Walks as walks;
 ghost use Rattle.corner_writings.specs.Walks.{IsLowestCost, IsNextCost, IsNoneAbove, IsNoneBelow};
 ghost use Rattle.corner_writings.specs.Walks.{IsStrongestAt, IsStrongestOf};
 
-use crate::levels::{Front, ends_column, front_at, front_of, has_cost, own_cost, signed, times_at};
+use crate::levels::{ends_column, front_at, front_of, has_cost, own_cost, signed, times_at};
 use corner_table::{Slot, Table, costs, line_slot, slot_at};
+use corner_view::{Front, Fronts};
 use problem_core::{Mark, Rel, RowName, Side};
-
-/// The fronts of a line's marks.
-#[derive(Clone, Copy, Debug)]
-pub struct Fronts {
-    pub under: Option<Front>,
-    pub over: Option<Front>,
-}
 
 // The reduced costs of a line's marks at a level.
 #[derive(Clone, Copy)]

@@ -3,12 +3,13 @@ ghost use Rattle.std.specs.Prelude.{◌≡◌, ◌≢◌, ◌<◌, ◌^◌, leng
 ghost use Rattle.problem_core.specs.Corners as corners;
 ghost use Rattle.problem_core.specs.Corners.{IsIn};
 ghost use Rattle.corner_writings.specs.Growing as growing;
-ghost use Rattle.corner_writings.specs.Growing.{AreGrowersDear, IsEntryDear, IsRowDear};
+ghost use Rattle.corner_view.specs.Growing.{AreGrowersDear};
+ghost use Rattle.corner_writings.specs.Growing.{IsEntryDear, IsRowDear};
 ghost use Rattle.corner_writings.specs.Walks.{IsLevelRead};
 ghost use Rattle.corner_table.specs.Kept.{IsKept};
 ghost use Rattle.corner_table.specs.Reads.LevelNumbers.{IsLevelSlot, IsSlotOfLine};
 ghost use Rattle.corner_table.specs.Tables.{lists_of, marks_at, problem_of, row_at};
-ghost use Rattle.corner_table.specs.Views.{IsLevelOf};
+ghost use Rattle.corner_view.specs.Seen.{IsLevelOf};
 
 use crate::levels::{LevelRead, level_read, reduced_by};
 use corner_table::{Table, level_slot, line_slot, other};

@@ -10,7 +10,7 @@ use Rattle.problem_core.proofs.Best.Midpoints.{cancel, count-append, none-before
 use Rattle.diagnosis.specs.Ambiguity.{IsLooselyBest}
 use Rattle.diagnosis.proofs.Loosely.{less_from, less_times, same_costs}
 use Rattle.certificates.proofs.ErrorFacts.{counts-alike}
-use Rattle.corner.proofs.Corners.NewCorners.{made_problem}
+use Rattle.corner_view.proofs.Facts.{made_problem}
 use Rattle.problem_core.proofs.Best.Targets.{some as common_above}
 use Rattle.frac_core.proofs.Gauss.{above_left as left-positive}
 use Rattle.frac_core.proofs.Numbers.{product-above as product-up}

@@ -8,7 +8,7 @@ use Rattle.problem_core.specs.Gaps.{value_of}
 use Rattle.cert_core.specs.Stops.{IsStopOf}
 use Rattle.cert_core.specs.declared.stops.RunStop.{RunStop}
 use Rattle.cert_core.specs.declared.stops.RunStop.TheVariants as run
-use Rattle.corner.specs.Changes.{FromAdded}
+use Rattle.corner_view.specs.AddStops.{FromAdded}
 use Rattle.layout_solver.specs.Layouts.{AreBest, Layout}
 use Rattle.layout_solver.proofs.Removals.LeftEnds.{no_conflict}
 use Rattle.diagnosis.specs.declared.probing.DiagnoseStop.{DiagnoseStop}

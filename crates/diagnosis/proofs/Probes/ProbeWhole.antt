@@ -14,7 +14,7 @@ use Rattle.problem_core.specs.Layout.{HasStay, IsCovered, Problem, Row}
 use Rattle.problem_core.specs.Kept.{IsNumber, IsRow, IsStay, IsTerm, IsWhole}
 use Rattle.problem_core.proofs.Forms.{each-impl}
 use Rattle.corner_lines.specs.Shifts.{has_constant, with_constant}
-use Rattle.corner.specs.Shifts.Shifting.{IsNear}
+use Rattle.corner_view.specs.Changes.{IsNear}
 use Rattle.layout_solver.specs.Layouts.{Layout, stays_at, with_added, zeros}
 use Rattle.diagnosis.specs.Probes.{CanProbe, IsNearTo, next_number, probe_row, wish_row, with_probe}
 use Rattle.layout_solver.proofs.BestValues.{attrs-at, same-stays}

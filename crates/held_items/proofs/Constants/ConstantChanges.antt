@@ -5,7 +5,7 @@ use Rattle.std.proofs.lemmas.List.{get_or_default}
 use Rattle.std.proofs.lemmas.List.Elements.{All-from_recursion}
 use Rattle.frac_core.specs.Fraction.{Fraction}
 use Rattle.problem_core.specs.Layout.{Row, Problem}
-use Rattle.corner.specs.Shifts.Shifting.{IsNear}
+use Rattle.corner_view.specs.Changes.{IsNear}
 use Rattle.corner_lines.specs.Shifts.{has_constant}
 use Rattle.layout_solver.specs.declared.engine.Change.{Change}
 use Rattle.layout_solver.specs.Shifts.{CanShift, shifted}

@@ -5,7 +5,7 @@ use Rattle.std.proofs.lemmas.List.Elements.{filter_more}
 use Rattle.problem_core.specs.declared.parts.Stay.{Stay}
 use Rattle.problem_core.specs.Layout.{Row, Problem}
 use Rattle.corner_lines.specs.Removals.{without_attr, without_row}
-use Rattle.corner.proofs.Corners.NewCorners.{made_problem}
+use Rattle.corner_view.proofs.Facts.{made_problem}
 use Rattle.layout_solver.specs.Removals.{Leaving, is_among, other_rows, other_stays, without, without_attrs, without_rows}
 
 symmetric : (a b : ℕ) → nat_eq a b ≡ nat_eq b a

@@ -26,8 +26,8 @@ use Rattle.cert_core.specs.declared.stops.UnfitPath.{UnfitPath}
 use Rattle.cert_core.specs.declared.stops.RunStop.TheVariants.{Unfit as UnfitRun}
 use Rattle.corner_laws.proofs.Counting.{head_pairs}
 use Rattle.corner_laws.proofs.PathEnds.Complete.{plain_alone}
-use Rattle.corner.specs.Views.{in_order, is_mark}
-use Rattle.corner_table.proofs.Readings.KeptFacts.{is_in}
+use Rattle.corner_view.specs.Seen.{in_order, is_mark}
+use Rattle.corner_view.proofs.Facts.{is_in}
 use Rattle.corner_lines.specs.Removals.{IsFree, without_attr, without_row}
 use Rattle.corner_lines.proofs.ProblemChanges.Dropped.{other_row}
 use Rattle.corner_lines.proofs.ProblemChanges.DroppedAttr.{attr_left_corner, filter-off, filter-on, other_stay, stay-out}

@@ -8,8 +8,8 @@ use Rattle.problem_core.specs.declared.parts.Stay.{Stay}
 use Rattle.problem_core.specs.Layout.{Assignment, HasStay, Problem, Row, Satisfies, error, line_of_row}
 use Rattle.problem_core.specs.Kept.{IsWhole}
 use Rattle.problem_core.specs.Corners.{IsCorner, NoNegativeValue, Point, StandsAt, attr_column}
-use Rattle.corner.specs.Views.{CornerView, HasValueAt, IsKeptCorner, Scene}
-use Rattle.corner.specs.Changes.{HasStood, scene_of}
+use Rattle.corner_view.specs.Seen.{CornerView, HasValueAt, IsKeptCorner, Scene}
+use Rattle.corner_view.specs.Changes.{HasStood, scene_of}
 use Rattle.corner_ends.specs.Runs.{IsBestEnd}
 use Rattle.marker_remove.specs.Freed.{DoStand}
 use Rattle.layout_solver.specs.declared.request.RequestStop.{RequestStop}

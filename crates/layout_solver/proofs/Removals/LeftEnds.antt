@@ -27,8 +27,8 @@ use Rattle.cert_core.specs.Stops.{IsShownConflict, IsStopOf}
 use Rattle.cert_core.specs.declared.by.By.{By}
 use Rattle.cert_core.specs.declared.stops.UnfitPath.{UnfitPath}
 use Rattle.cert_core.specs.declared.stops.RunStop.TheVariants.{Unfit as UnfitRun, Spent as SpentRun}
-use Rattle.corner.specs.Views.{CornerView, IsKeptCorner, in_order}
-use Rattle.corner.specs.Changes.{IsUnfitStop}
+use Rattle.corner_view.specs.Seen.{CornerView, in_order, IsKeptCorner}
+use Rattle.corner_view.specs.Stops.{IsUnfitStop}
 use Rattle.corner_ends.specs.Runs.{FromHere, IsRun}
 use Rattle.corner_lines.specs.Removals.{without_attr, without_row}
 use Rattle.corner_lines.proofs.ProblemChanges.Dropped.{left_corner}

@@ -26,7 +26,7 @@ use Rattle.layout_solver.proofs.Removals.LeftMarks.{after_drop, after_free, far_
 use Rattle.problem_core.proofs.Marks.{changes-more, exchanges-more as exchanges_more, same-back as same_back, last-more as last_more, rows-stay}
 use Rattle.corner_lines.proofs.Costs.LevelTakes.{entering-mark as entered_mark}
 use Rattle.frac_core.proofs.Lists.{pairs-rest as tail_pairs}
-use Rattle.corner_table.proofs.Basics.MarkLists.{same_trans as same_through}
+use Rattle.corner_view.proofs.Facts.{same_trans as same_through}
 
 -- ---- a corner after exchanges
 

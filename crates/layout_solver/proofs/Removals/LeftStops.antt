@@ -9,12 +9,12 @@ use Rattle.problem_core.specs.declared.parts.Stay.{Stay}
 use Rattle.problem_core.specs.Changes.Begins.{is_one_of, without_marks}
 use Rattle.problem_core.specs.Layout.{Problem, Row, line_of_row, stay_lines}
 use Rattle.problem_core.specs.Corners.{marks_of, place}
-use Rattle.corner.specs.Views.{in_order, is_mark}
+use Rattle.corner_view.specs.Seen.{in_order, is_mark}
 use Rattle.corner_lines.specs.Removals.{without_row}
 use Rattle.layout_solver.proofs.Removals.LeftMarks.{far_in, is_row-own, is_row-other, was_in}
 use Rattle.corner_lines.proofs.ProblemChanges.Dropped.{filter-on, filter-off, left_mark, other_row}
 use Rattle.frac_core.proofs.Bools.{bools-same as same_bool}
-use Rattle.corner_table.proofs.Readings.KeptFacts.{is_in as in_is, in_is as is_in}
+use Rattle.corner_view.proofs.Facts.{in_is as is_in, is_in as in_is}
 
 -- ---- the marks that are left are in order
 

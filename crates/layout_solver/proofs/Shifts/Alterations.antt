@@ -15,8 +15,8 @@ use Rattle.cert_core.specs.declared.stops.RunStop.{RunStop}
 use Rattle.cert_core.specs.declared.stops.RunStop.TheVariants.{Conflict, Unfit, Spent, OutOfMemory}
 use Rattle.corner_laws.proofs.PathEnds.Complete.{plain_alone}
 use Rattle.corner_laws.proofs.WrittenValues.{contains_each}
-use Rattle.corner.specs.Views.{CornerView, IsKeptCorner, IsMarkOf, IsNamed}
-use Rattle.corner.specs.Changes.{HasStood}
+use Rattle.corner_view.specs.Seen.{CornerView, IsKeptCorner, IsMarkOf, IsNamed}
+use Rattle.corner_view.specs.Changes.{HasStood}
 use Rattle.corner_ends.specs.Runs.{FromHere, IsRun}
 use Rattle.dual_run.specs.Leaving.{AreLowLines, IsLow}
 use Rattle.dual_run.proofs.Lows.{low_everywhere}

@@ -16,7 +16,7 @@ use Rattle.corner_lines.proofs.ProblemChanges.Shifted.{changed, shift-off, shift
 use Rattle.layout_solver.specs.declared.engine.Change.{Change}
 use Rattle.layout_solver.specs.Shifts.{shifted}
 use Rattle.corner_laws.proofs.PathEnds.Complete.{same-self, no-changes}
-use Rattle.corner_table.proofs.Seen.ShiftedLines.{row_id}
+use Rattle.corner_view.proofs.Seen.ShiftedLines.{row_id}
 use Rattle.corner_laws.proofs.MarkWritings.TermLifts.{pairs-across}
 use Rattle.frac_core.proofs.Bools.{false-not-true as no-truth}
 use Rattle.frac_core.proofs.Lists.{pairs-rest as tail_pairs, each-joined}

@@ -28,12 +28,12 @@ use Rattle.corner_lines.specs.Fronts.{constantless}
 use Rattle.corner_lines.specs.Shifts.{AreSeenAlike, has_constant, with_constant}
 use Rattle.corner_lines.proofs.ProblemChanges.Shifted.{shift_rays}
 use Rattle.corner_lines.proofs.ProblemChanges.ShiftedCorner.{shift_corner}
-use Rattle.corner.specs.Shifts.Shifting.{IsNear}
-use Rattle.corner.specs.Changes.{HasStood, IsRewound, IsUnfitStop, scene_of}
-use Rattle.corner.specs.Views.{CornerView, IsKeptCorner, Scene}
-use Rattle.corner_table.proofs.Seen.ShiftedLines.{shift_seen, shift_whole}
-use Rattle.corner_table.proofs.Seen.SeenColumns.{multipliers_seen}
-use Rattle.corner_table.proofs.Seen.SeenLines.{each_seen, rows_alike}
+use Rattle.corner_view.specs.Changes.{HasStood, IsNear, IsRewound, scene_of}
+use Rattle.corner_view.specs.Stops.{IsUnfitStop}
+use Rattle.corner_view.specs.Seen.{CornerView, IsKeptCorner, Scene}
+use Rattle.corner_view.proofs.Seen.ShiftedLines.{shift_seen, shift_whole}
+use Rattle.corner_view.proofs.Seen.SeenColumns.{multipliers_seen}
+use Rattle.corner_view.proofs.Seen.SeenLines.{each_seen, rows_alike}
 use Rattle.corner_ends.specs.Runs.{FromHere}
 use Rattle.layout_solver.specs.declared.engine.Change.{Change}
 use Rattle.layout_solver.specs.Shifts.{CanShift, IsAtMark, shifted, with_constants}

@@ -19,9 +19,9 @@ use Rattle.cert_core.specs.declared.stops.RunStop.{RunStop}
 use Rattle.cert_core.specs.declared.stops.RunStop.TheVariants.{Conflict, Unfit, Spent, OutOfMemory}
 use Rattle.corner_laws.proofs.PathEnds.Complete.{plain_alone}
 use Rattle.corner_laws.proofs.WrittenValues.{contains_each}
-use Rattle.corner.specs.Views.{CornerView, IsKeptCorner, in_order}
+use Rattle.corner_view.specs.Seen.{CornerView, in_order, IsKeptCorner}
 use Rattle.corner_laws.specs.Lifts.{with_rows}
-use Rattle.corner.specs.Changes.{FromAdded}
+use Rattle.corner_view.specs.AddStops.{FromAdded}
 use Rattle.corner_ends.specs.Runs.{FromHere, IsRun}
 use Rattle.corner_laws.proofs.PathEnds.BeginsUnique.{agree-both, stands-before}
 use Rattle.frac_core.proofs.Numbers.{neg-times}

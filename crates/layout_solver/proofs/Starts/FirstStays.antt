@@ -10,8 +10,8 @@ use Rattle.problem_core.specs.Kept.{IsWhole}
 use Rattle.problem_core.specs.Corners.{IsCorner, NoNegativeValue}
 use Rattle.problem_core.proofs.Forms.{each-impl}
 use Rattle.corner_laws.proofs.MarkWritings.TermLifts.{pairs-across}
-use Rattle.corner.specs.Views.{CornerView, Scene}
-use Rattle.corner.specs.Changes.{scene_of}
+use Rattle.corner_view.specs.Seen.{CornerView, Scene}
+use Rattle.corner_view.specs.Changes.{scene_of}
 use Rattle.corner_ends.specs.Runs.{HasEnded, IsBestEnd}
 use Rattle.layout_solver.specs.Starts.{IsMarkedHere, as_problem}
 use Rattle.layout_solver.proofs.Starts.Moved.{each_mapped}

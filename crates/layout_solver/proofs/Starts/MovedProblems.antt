@@ -13,9 +13,10 @@ use Rattle.problem_core.proofs.Forms.{each-impl}
 use Rattle.cert_core.specs.Paths.{Path}
 use Rattle.cert_core.specs.Stops.{IsStopOf}
 use Rattle.cert_core.specs.declared.stops.RunStop.{RunStop}
-use Rattle.corner.specs.Views.{CornerView, HasValueAt, IsKeptCorner}
+use Rattle.corner_view.specs.Seen.{CornerView, HasValueAt, IsKeptCorner}
 use Rattle.corner_laws.specs.Lifts.{with_rows}
-use Rattle.corner.specs.Changes.{FromAdded, HasStood, scene_of}
+use Rattle.corner_view.specs.AddStops.{FromAdded}
+use Rattle.corner_view.specs.Changes.{HasStood, scene_of}
 use Rattle.corner_ends.specs.Runs.{IsRun}
 use Rattle.layout_solver.specs.Layouts.{stays_at, zeros}
 use Rattle.layout_solver.specs.Engines.{AreItsValues}

@@ -2,11 +2,13 @@
 ghost use Rattle.std.specs.Prelude.{◌<◌, length, IfOk};
 
 use crate::engine::Engine;
+use corner_view::Tableau;
 use frac_core::OutOfMemory;
 
-impl Engine {
+impl<T: Tableau> Engine<T> {
     ghost use Rattle.layout_solver.specs.Layouts.{solution_of};
-    ghost use Rattle.layout_solver.specs.Moves.{AreMovedSince, HasValueOf};
+    ghost use Rattle.corner_view.specs.Moves.{AreMovedSince};
+    ghost use Rattle.layout_solver.specs.Moves.{HasValueOf};
 
     /// The attributes whose values changed since the latest earlier layout, and those that came or left. The
     /// time depends only on how much changed.

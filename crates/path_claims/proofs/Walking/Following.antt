@@ -17,8 +17,6 @@ use Rattle.path_claims.proofs.Walking.WaySteps.{new_after}
 use Rattle.corner_laws.proofs.RunSteps.RunPaths.{contains_in as in_all}
 use Rattle.path_lines.proofs.Walking.PlacedSwaps.{exchange_there}
 
--- ---- exchanges, one more
-
 -- ---- a part of the swaps is not the whole route
 
 -- the longer list goes on where the shorter one ends
@@ -53,8 +51,6 @@ take_next path i d s within is = take_more path.swaps i d within ∙ ap (λ (x :
 
 pub no_exchange_here : (p : Problem) (path : Path) (i : ℕ) (d : Swap) → i < length path.swaps → (IsExchange p (last_marks path.corner (take i path.swaps)) (get_or path.swaps i d) → ⊥) → AreExchanges p path.corner path.swaps → ⊥
 no_exchange_here p path i d less none are = none (exchange_there p path.corner (take i path.swaps) (get_or path.swaps i d) (drop (i + 1) path.swaps) (subst (AreExchanges p path.corner) (split_there path.swaps i d less) are))
-
--- ---- the swaps by places
 
 -- ---- what stops them
 

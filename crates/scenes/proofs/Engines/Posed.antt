@@ -32,7 +32,7 @@ use Rattle.scenes.proofs.Engines.Moves.{moved-still, moved-added}
 use Rattle.scenes.proofs.Views.NewViews.{views-possible}
 use Rattle.scenes.proofs.Engines.Reached.{settled}
 use Rattle.scenes.proofs.Engines.Wholes.{IsSettled}
-use Rattle.corner.proofs.Corners.NewCorners.{made_problem}
+use Rattle.corner_view.proofs.Facts.{made_problem}
 use Rattle.scenes.specs.declared.scene.past.Setting.{Setting}
 use Rattle.scenes.proofs.Settings.{later}
 

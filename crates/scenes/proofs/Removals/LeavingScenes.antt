@@ -31,7 +31,7 @@ use Rattle.layout_solver.proofs.Posed.Moves.{moved-is}
 use Rattle.held_items.proofs.HeldRows.Ranks.{HasRank}
 use Rattle.scenes.proofs.Engines.Reached.{settled}
 use Rattle.scenes.proofs.Engines.Wholes.{IsSettled}
-use Rattle.corner.proofs.Corners.NewCorners.{made_problem}
+use Rattle.corner_view.proofs.Facts.{made_problem}
 use Rattle.scenes.specs.declared.scene.past.Setting.{Setting}
 
 -- ---- rows leave alone, as those made_problem a group or made_problem a suggestion

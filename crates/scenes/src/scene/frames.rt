@@ -8,6 +8,7 @@ ghost use Rattle.view_tree.specs.Views.{view_of};
 ghost use Rattle.held_items.specs.Attributes.{view_attributes};
 ghost use Rattle.scenes.specs.Frames.{frame_of};
 
+use corner_view::Tableau;
 use frac_core::Frac;
 use layout_solver::Engine;
 use view_tree::{Tree, ViewId};
@@ -40,7 +41,7 @@ fn is_at(tree: &Tree, place: usize, view: ViewId) -> bool
 }
 
 /// The value of an attribute that has a stay.
-pub fn value_of(engine: &Engine, attr: u32) -> Frac
+pub fn value_of<T: Tableau>(engine: &Engine<T>, attr: u32) -> Frac
     requires { HasStay engine.now.problem.stays attr }
     ensures { result ≡ value_of engine.now.values attr }
 {
@@ -49,7 +50,7 @@ pub fn value_of(engine: &Engine, attr: u32) -> Frac
 }
 
 /// Left, top, width and height of the view of this number.
-pub fn frame_of(engine: &Engine, id: u32) -> [Frac; 4]
+pub fn frame_of<T: Tableau>(engine: &Engine<T>, id: u32) -> [Frac; 4]
     requires small { id < ID_LIMIT }
     requires stays { All (HasStay engine.now.problem.stays) (view_attributes id) }
     ensures { result ≡ frame_of engine.now.values id }

@@ -4,6 +4,7 @@ ghost use Rattle.std.specs.List.Sorted.{IsStrictlyIncreasing};
 ghost use Rattle.scenes.specs.Moves.{AreOwners};
 
 use crate::scene::Scene;
+use corner_view::Tableau;
 use frac_core::OutOfMemory;
 use std::alloc::Global;
 
@@ -29,8 +30,8 @@ fn views_of(alloc: Global, attrs: &[u32]) -> Result<Vec<u32>, OutOfMemory>
     Ok(out)
 }
 
-impl Scene {
-    ghost use Rattle.layout_solver.specs.Moves.{AreMovedSince};
+impl<T: Tableau> Scene<T> {
+    ghost use Rattle.corner_view.specs.Moves.{AreMovedSince};
     ghost use Rattle.scenes.specs.Frames.{IsFrameOf};
 
     /// The numbers of the views whose frames changed since the latest earlier scene, rising: views that

@@ -6,6 +6,7 @@ ghost use Rattle.layout_solver.specs.Layouts.{solution_of};
 ghost use Rattle.scenes.specs.Kept.{AreAlike, own_or};
 ghost use Rattle.held_items.specs.declared.limits.TheConstants.{EARLIER};
 
+use corner_view::Tableau;
 use held_items::{Item, Own};
 use layout_solver::Engine;
 use name_tables::Metrics;
@@ -78,7 +79,11 @@ fn drop_oldest(pasts: &mut VecDeque<Past>)
 }
 
 // Forgets the oldest of the earlier ones.
-fn forget_oldest(items: &mut VersionList<Item>, engine: &mut Engine, pasts: &mut VecDeque<Past>)
+fn forget_oldest<T: Tableau>(
+    items: &mut VersionList<Item>,
+    engine: &mut Engine<T>,
+    pasts: &mut VecDeque<Past>,
+)
     requires some { 0 < length pasts.old.items }
     requires items { length items.old.before ≡ length pasts.old.items }
     requires solutions { length engine.old.earlier ≡ length pasts.old.items }
@@ -96,9 +101,9 @@ fn forget_oldest(items: &mut VersionList<Item>, engine: &mut Engine, pasts: &mut
 
 /// Makes a scene's own parts the newest earlier ones, beside the newest versions of the items and the engine.
 /// At most `most` are kept; the oldest of too many is forgotten.
-pub fn keep(
+pub fn keep<T: Tableau>(
     items: &mut VersionList<Item>,
-    engine: &mut Engine,
+    engine: &mut Engine<T>,
     pasts: &mut VecDeque<Past>,
     past: Past,
     most: usize,

@@ -7,13 +7,14 @@ ghost use Rattle.scenes.specs.Sweeping.{problem_here};
 
 use crate::scene::Scene;
 use compile_parts::LargeConstant;
+use corner_view::Tableau;
 use frac_core::{OutOfMemory, Stop};
 use held_items::{constants_naming, moves};
 use layout_solver::{Change, Request};
 use name_tables::Metrics;
 use problem_core::Problem;
 
-impl Scene {
+impl<T: Tableau> Scene<T> {
     /// The problem of the rows of all that is held.
     pub fn problem(&self) -> Result<Problem, OutOfMemory>
         ensures { IfOk result (λ p. p ≡ problem_of self.now.scene) }

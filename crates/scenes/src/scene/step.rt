@@ -25,6 +25,7 @@ use crate::scene::Scene;
 use crate::scene::draft::{Draft, NewMetrics};
 use crate::scene::past::{Past, keep, put};
 use conflict_core::{CoreStop, Found, core_of};
+use corner_view::Tableau;
 use frac_core::OutOfMemory;
 use held_items::{
     Item, Leaver, NewItem, NewViews, Own, Renewal, VIEW_ROWS, attributes_from, changes_of,
@@ -87,8 +88,8 @@ fn hold(items: &mut VersionList<Item>, holding: Holding) -> Result<(), OutOfMemo
 
 // Changes the items and lets the engine solve the request. Both save the version before. After a stop both
 // are as before.
-fn run(
-    engine: &mut Engine,
+fn run<T: Tableau>(
+    engine: &mut Engine<T>,
     items: &mut VersionList<Item>,
     request: &Request,
     holding: Holding,
@@ -142,7 +143,7 @@ fn tree_left(alloc: Global, tree: &Tree, leaver: &Leaver) -> Result<Option<Own<T
     }
 }
 
-impl Scene {
+impl<T: Tableau> Scene<T> {
     ghost use Rattle.scenes.specs.Stepping.{IsStepTo, plain_step};
 
     // The step in which views, metrics and setting stay the same.

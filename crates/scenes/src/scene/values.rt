@@ -5,6 +5,7 @@ ghost use Rattle.problem_core.specs.Layout.{HasStay};
 ghost use Rattle.held_items.specs.Attributes.{all_attributes};
 
 use crate::scene::frames::value_of;
+use corner_view::Tableau;
 use frac_core::{Frac, OutOfMemory};
 use held_items::view_attributes;
 use layout_solver::Engine;
@@ -13,9 +14,9 @@ use std::alloc::Global;
 use view_tree::Tree;
 
 // Appends the values of these attributes.
-fn push_values(
+fn push_values<T: Tableau>(
     out: &mut Vec<(u32, Frac)>,
-    engine: &Engine,
+    engine: &Engine<T>,
     attrs: &[u32],
 ) -> Result<(), OutOfMemory>
     requires { All (HasStay engine.now.problem.stays) attrs.now }
@@ -29,7 +30,11 @@ fn push_values(
 }
 
 /// The best values of the views' attributes, by number.
-pub(crate) fn values_of(alloc: Global, tree: &Tree, engine: &Engine) -> Result<Values, OutOfMemory>
+pub(crate) fn values_of<T: Tableau>(
+    alloc: Global,
+    tree: &Tree,
+    engine: &Engine<T>,
+) -> Result<Values, OutOfMemory>
     requires { All (HasStay engine.now.problem.stays) (all_attributes tree.now.views) }
     ensures { IfOk result (λ values. values
         ≡ map (λ a. (a, value_of engine.now.values a)) (all_attributes tree.now.views)) }

@@ -22,7 +22,7 @@ use Rattle.layout_solver.specs.Layouts.{Layout}
 use Rattle.layout_solver.specs.Removals.{FromRemoved, IsHeldPath, IsLeftStop, Leaving, without, without_rows}
 use Rattle.layout_solver.specs.declared.request.RequestStop.{RequestStop}
 use Rattle.layout_solver.specs.declared.request.RequestStop.TheVariants as request
-use Rattle.corner.specs.Changes.{FromAdded}
+use Rattle.corner_view.specs.AddStops.{FromAdded}
 use Rattle.diagnosis.specs.Probes.{IsBeside, IsProbeStop, next_num, probe_row, with_probe}
 use Rattle.diagnosis.specs.declared.probing.DiagnoseStop.TheVariants as probed
 use Rattle.scenes.specs.Diagnosing.{IsLayoutOf, IsProbedStop}

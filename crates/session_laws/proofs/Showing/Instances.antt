@@ -29,7 +29,7 @@ use Rattle.corner_laws.proofs.Instances.RunExamples.{single_whole}
 use Rattle.corner_laws.proofs.Instances.Shown.{five, one_each, opposed, seven, shown}
 use Rattle.corner_laws.proofs.Instances.StopExamples.{spent_stops}
 use Rattle.corner_laws.proofs.MarkWritings.Fits.{whole_is_kept}
-use Rattle.corner.specs.Views.{IsInUse, IsStronger}
+use Rattle.corner_view.specs.Seen.{IsInUse, IsStronger}
 use Rattle.cert_checker.specs.Certifying.{AreOfStays, HasLevel}
 use Rattle.cert_checker.specs.LinePlaces.{names}
 use Rattle.certificates.specs.Accepted.{IsCertified}

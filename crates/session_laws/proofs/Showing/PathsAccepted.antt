@@ -25,7 +25,7 @@ use Rattle.corner_laws.specs.Laws.{Anywhere}
 use Rattle.corner_laws.proofs.OtherConstants.{alike-whole, constants_keep_corner, each-by, length-by, with_rows_of}
 use Rattle.corner_laws.proofs.PathEnds.Few.{last_corner}
 use Rattle.corner_laws.proofs.UnfitWritten.{first-alike, first-rows}
-use Rattle.corner.specs.Views.{in_order}
+use Rattle.corner_view.specs.Seen.{in_order}
 use Rattle.cert_checker.specs.declared.verdict.Verdict.{Verdict}
 use Rattle.certificates.specs.Accepted.{IsAccepted}
 use Rattle.path_claims.specs.declared.verdict.PathVerdict.{PathVerdict}

@@ -23,9 +23,9 @@ use Rattle.cert_checker.proofs.Indexes.{length-lines}
 use Rattle.claim_writing.specs.Names.{IsLevelName, IsRowBefore, IsRowName}
 use Rattle.claim_writing.specs.PathTexts.{IsCount, IsSwapName, IsWhatName}
 use Rattle.claim_text.specs.Paths.PathForms.{IsPathWritten, IsQuantityWritten}
-use Rattle.corner.specs.Views.{in_order, is_mark}
+use Rattle.corner_view.specs.Seen.{in_order, is_mark}
 use Rattle.corner_laws.proofs.Counting.{head_pairs}
-use Rattle.corner_table.proofs.Readings.KeptFacts.{is_in}
+use Rattle.corner_view.proofs.Facts.{is_in}
 use Rattle.corner_lines.proofs.LevelRows.LevelExchanges.{by-sides}
 use Rattle.corner_lines.proofs.Lines.LineWritings.{other-out}
 use Rattle.session_laws.proofs.Showing.Written.{level-named, lines-come, lines-named}

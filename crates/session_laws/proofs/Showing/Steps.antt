@@ -10,7 +10,7 @@ use Rattle.cert_core.specs.Paths.{Path}
 use Rattle.cert_core.specs.declared.stops.UnfitPath.{UnfitPath}
 use Rattle.cert_core.specs.Stops.{IsStopOf, IsUnfitPath}
 use Rattle.corner_laws.specs.Laws.{Anywhere}
-use Rattle.corner.specs.Views.{in_order}
+use Rattle.corner_view.specs.Seen.{in_order}
 use Rattle.layout_solver.specs.Begins.{FromStart}
 use Rattle.layout_solver.specs.Removals.{FromRemoved, without, without_rows}
 use Rattle.layout_solver.specs.declared.request.RequestStop.TheVariants as request

@@ -26,7 +26,7 @@ use Rattle.claim_writing.specs.Names.{IsLevelBefore, IsLevelName, IsRowBefore, I
 use Rattle.claim_writing.specs.ClaimLines.{IsValue}
 use Rattle.claim_text.specs.Claims.ClaimTexts.{AreRead, IsBestWritten, IsLevelRead}
 use Rattle.corner_laws.proofs.Counting.{head_pairs}
-use Rattle.corner.specs.Views.{IsStronger}
+use Rattle.corner_view.specs.Seen.{IsStronger}
 use Rattle.certificates.specs.OwnLevels.{IsOwnBest, IsOwnLevel, nonzero_times}
 
 -- ---- lists

@@ -16,7 +16,7 @@ use Rattle.cert_core.specs.Claims.{AreBys, AreLevels, BestLevel}
 use Rattle.cert_core.specs.Paths.{Path}
 use Rattle.cert_core.specs.Stops.{IsShownConflict, IsStopOf}
 use Rattle.corner_laws.specs.Laws.{Anywhere}
-use Rattle.corner.specs.Views.{in_order}
+use Rattle.corner_view.specs.Seen.{in_order}
 use Rattle.certificates.specs.Accepted.{IsCertified}
 use Rattle.certificates.specs.OwnLevels.{IsOwnBest}
 use Rattle.cert_checker.specs.declared.verdict.Verdict.{Verdict}

@@ -6,7 +6,7 @@ use Rattle.problem_core.specs.Kept.{IsRow, IsWhole}
 use Rattle.cert_core.specs.declared.stops.RunStop.{RunStop}
 use Rattle.cert_core.specs.declared.stops.RunStop.TheVariants.{Conflict, OutOfMemory, Spent, Unfit}
 use Rattle.cert_core.specs.Claims.{AreBys}
-use Rattle.corner.specs.Views.{in_order}
+use Rattle.corner_view.specs.Seen.{in_order}
 use Rattle.layout_solver.specs.Begins.{IsStopFrom, Start}
 use Rattle.layout_solver.specs.declared.request.RequestStop.{RequestStop}
 use Rattle.layout_solver.specs.declared.request.RequestStop.TheVariants as request

@@ -3,10 +3,11 @@ ghost use Rattle.std.specs.Prelude.{◌≡◌, [], IfOk, IfSome, IfNone};
 ghost use Rattle.std.specs.List.Sorted.{IsStrictlyIncreasing};
 
 use crate::session::Session;
+use corner_view::Tableau;
 use frac_core::OutOfMemory;
 
-impl Session {
-    ghost use Rattle.layout_solver.specs.Moves.{AreMovedSince};
+impl<T: Tableau> Session<T> {
+    ghost use Rattle.corner_view.specs.Moves.{AreMovedSince};
     ghost use Rattle.scenes.specs.Frames.{IsFrameOf};
 
     /// The numbers of the views whose frames changed since the scene that `undo` would restore, rising: views

@@ -6,19 +6,19 @@ use Rattle.problem_core.specs.declared.parts.Rel.{Rel}
 use Rattle.problem_core.specs.declared.parts.Mark.{Mark}
 use Rattle.problem_core.specs.declared.parts.Side.TheVariants.{Under, Over}
 use Rattle.problem_core.specs.Corners.{place}
-use Rattle.corner_ends.specs.Views.{HasValueAt}
+use Rattle.corner_view.specs.Seen.{HasValueAt}
 use Rattle.certificates.specs.Errors.{IsLack}
 use Rattle.certificates.proofs.ErrorFacts.{row_error, row_mark}
 use Rattle.certificates.proofs.errors.error.Goals as goal
 
 pub value-under-requires : goal.value-under-requires
-value-under-requires c = record { mark = row_mark c.args.c.now.problem c.args.row.now c.mark_of.result Under c.requires.held c.mark_of.ensures }
+value-under-requires g c = record { mark = row_mark c.args.c.now.problem c.args.row.now c.mark_of.result Under c.requires.held c.mark_of.ensures }
 
 pub value-over-requires : goal.value-over-requires
-value-over-requires c = record { mark = row_mark c.args.c.now.problem c.args.row.now c.mark_of-2.result Over c.requires.held c.mark_of-2.ensures }
+value-over-requires g c = record { mark = row_mark c.args.c.now.problem c.args.row.now c.mark_of-2.result Over c.requires.held c.mark_of-2.ensures }
 
 pub returns-clause-error : goal.returns-clause-error
-returns-clause-error c =
+returns-clause-error g c =
     let s : SFits w64 c.scale.result = search rules in
     let ratio = simp (to_z-of_z, s) at c.over_scale.ensures.value in
     row_error c.args.c.now.problem c.args.c.now.marks c.args.row.now c.value-under.result c.value-over.result c.lacking.result c.over_scale.result c.show_corner.ensures.kept.whole c.show_corner.ensures.kept.corner c.requires.values c.requires.held

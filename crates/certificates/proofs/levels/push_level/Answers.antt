@@ -9,7 +9,7 @@ use Rattle.certificates.proofs.CornerLevels.{Divided, level_kept, needless, no_i
 use Rattle.certificates.proofs.levels.push_level.Goals as goal
 
 pub returns-then-is_empty : goal.returns-then-is_empty
-returns-then-is_empty c =
+returns-then-is_empty g c =
     inl (
       refl,
       needless c.args.c.now.problem c.args.c.now.marks c.args.level c.in_ok-by.by.items c.show_corner.ensures.kept c.requires.level c.in_ok-by.ensures.value
@@ -17,18 +17,18 @@ returns-then-is_empty c =
     )
 
 pub share-requires-clause-divides : goal.share-requires-clause-divides
-share-requires-clause-divides c =
+share-requires-clause-divides g c =
     let f : SFits w64 c.common_factor-factor.result = search rules in
     let s : SFits w64 c.scale-scale.result = search rules in
     simp (to_z-of_z, f, s) (simp (to_z-of_z, f, s) at c.common_factor-factor.ensures.scale)
 
 pub shares-requires-clause-divides : goal.shares-requires-clause-divides
-shares-requires-clause-divides c =
+shares-requires-clause-divides g c =
     let f : SFits w64 c.common_factor-factor.result = search rules in
     simp (to_z-of_z, f) (subst (λ (bys : List By). All (λ b. ◌∣◌ (unsigned_abs c.common_factor-factor.result) (unsigned_abs b.times)) bys) (c.deref.ensures.value ∙ sym c.deref-2.ensures.value) c.common_factor-factor.ensures.by)
 
 pub push-requires-clause-level : goal.push-requires-clause-level
-push-requires-clause-level c =
+push-requires-clause-level g c =
     let f : SFits w64 c.common_factor-factor.result = search rules in
     let l : SFits w64 c.share.result = search rules in
     let same = simp (to_z-of_z, f) at c.in_ok-shares.ensures.value in
@@ -38,7 +38,7 @@ push-requires-clause-level c =
     (same ∙ c.deref-2.ensures.value) c.share.ensures.fits c.in_ok-shares.ensures.fits))
 
 pub returns : goal.returns
-returns c =
+returns g c =
     let f : SFits w64 c.common_factor-factor.result = search rules in
     let l : SFits w64 c.share.result = search rules in
     let s : SFits w64 c.scale-scale.result = search rules in

@@ -4,7 +4,7 @@ use Rattle.conflict_core.specs.Trials.{nothing}
 use Rattle.conflict_core.proofs.search.searched.Given as goal
 
 abbrev pub invariant-loop-e : goal.invariant-loop-e
-invariant-loop-e l = record { same : l.e ≡ nothing; way : IsSearch l.t.problem.now l.s }
+invariant-loop-e g l = record { same : l.e ≡ nothing; way : IsSearch l.t.problem.now l.s }
 
 abbrev pub decreases-loop-e : goal.decreases-loop-e
-decreases-loop-e l = left_of l.s
+decreases-loop-e g l = left_of l.s

@@ -7,14 +7,14 @@ use Rattle.conflict_core.proofs.Narrowing.{others_required}
 use Rattle.conflict_core.proofs.search.step.Goals as goal
 
 pub tried-requires-clause-rows : goal.tried-requires-clause-rows
-tried-requires-clause-rows c =
+tried-requires-clause-rows g c =
     let others : c.deref-2.result.now ≡ without c.index-id.result.now c.args.s.now.rows.items =
     c.deref-2.ensures.value ∙ c.in_ok-others.ensures ∙ ap (without c.index-id.result.now) c.deref.ensures.value in
     subst (AreRequired c.args.t.now.problem.now) (sym others)
     (others_required c.args.t.now.problem.now c.args.s.now.rows.items c.index-id.result.now c.requires.search.rows)
 
 pub returns-in-Solved-clause-search : goal.returns-in-Solved-clause-search
-returns-in-Solved-clause-search c =
+returns-in-Solved-clause-search g c =
     let others : c.deref-2.result.now ≡ without c.index-id.result.now c.args.s.now.rows.items =
     c.deref-2.ensures.value ∙ c.in_ok-others.ensures ∙ ap (without c.index-id.result.now) c.deref.ensures.value in
     let place : get_or c.args.s.now.rows.items (length c.args.s.now.without.items) c.index-id.result.now ≡ c.index-id.result.now =
@@ -25,7 +25,7 @@ returns-in-Solved-clause-search c =
     (c.in_ok-keep-in-Solved.ensures c.args.t.now.problem.now (c.requires.next, place) c.requires.search solution).0
 
 pub returns-in-Solved-clause-nearer : goal.returns-in-Solved-clause-nearer
-returns-in-Solved-clause-nearer c =
+returns-in-Solved-clause-nearer g c =
     let others : c.deref-2.result.now ≡ without c.index-id.result.now c.args.s.now.rows.items =
     c.deref-2.ensures.value ∙ c.in_ok-others.ensures ∙ ap (without c.index-id.result.now) c.deref.ensures.value in
     let place : get_or c.args.s.now.rows.items (length c.args.s.now.without.items) c.index-id.result.now ≡ c.index-id.result.now =
@@ -36,7 +36,7 @@ returns-in-Solved-clause-nearer c =
     (c.in_ok-keep-in-Solved.ensures c.args.t.now.problem.now (c.requires.next, place) c.requires.search solution).1
 
 pub returns-clause-search : goal.returns-clause-search
-returns-clause-search c =
+returns-clause-search g c =
     let others : c.deref-2.result.now ≡ without c.index-id.result.now c.args.s.now.rows.items =
     c.deref-2.ensures.value ∙ c.in_ok-others.ensures ∙ ap (without c.index-id.result.now) c.deref.ensures.value in
     let place : get_or c.args.s.now.rows.items (length c.args.s.now.without.items) c.index-id.result.now ≡ c.index-id.result.now =
@@ -47,7 +47,7 @@ returns-clause-search c =
     (c.in_ok-narrow-in-Refuted.ensures c.args.t.now.problem.now c.index-id.result.now c.show_whole.ensures (c.requires.next, place) c.requires.search shown).0
 
 pub returns-clause-nearer : goal.returns-clause-nearer
-returns-clause-nearer c =
+returns-clause-nearer g c =
     let others : c.deref-2.result.now ≡ without c.index-id.result.now c.args.s.now.rows.items =
     c.deref-2.ensures.value ∙ c.in_ok-others.ensures ∙ ap (without c.index-id.result.now) c.deref.ensures.value in
     let place : get_or c.args.s.now.rows.items (length c.args.s.now.without.items) c.index-id.result.now ≡ c.index-id.result.now =

@@ -6,11 +6,11 @@ use Rattle.conflict_core.proofs.Narrowing.{kept}
 use Rattle.conflict_core.proofs.yielding.keep_values.Goals as goal
 
 pub values_of-requires-clause-held : goal.values_of-requires-clause-held
-values_of-requires-clause-held c =
+values_of-requires-clause-held g c =
     way_held c.args.t.now.problem.now c.args.s.now.rows.items c.args.to.now c.args.e.now c.requires.way c.args.t.now.numbers.now c.requires.trials.numbers
 
 pub returns-clause-search : goal.returns-clause-search
-returns-clause-search c =
+returns-clause-search g c =
     let solution : IsSolution (trial c.args.t.now.problem.now (without c.args.to.now.row c.args.s.now.rows.items)) c.in_ok-values.values =
     subst (IsSolution (trial c.args.t.now.problem.now (without c.args.to.now.row c.args.s.now.rows.items))) (sym c.in_ok-values.ensures)
     (gives_solution c.args.t.now.problem.now c.args.s.now.rows.items c.args.to.now c.args.e.now c.requires.way c.args.t.now.numbers.now c.requires.trials.numbers

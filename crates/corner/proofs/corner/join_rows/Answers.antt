@@ -6,7 +6,7 @@ use Rattle.problem_core.specs.declared.parts.Mark.{Mark}
 use Rattle.problem_core.specs.Kept.{IsWhole}
 use Rattle.problem_core.specs.Layout.{Problem}
 use Rattle.corner_laws.specs.Lifts.{with_rows}
-use Rattle.corner_joins.specs.Stops.{IsAddStop}
+use Rattle.corner_view.specs.AddStops.{IsAddStop}
 use Rattle.corner_table.specs.Invariants.{seen_of}
 use Rattle.corner_table.specs.Tables.{lists_of, marks_at, problem_of}
 use Rattle.corner.proofs.Additions.AddedConsistent.{added_consistent}

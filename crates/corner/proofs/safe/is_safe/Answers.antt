@@ -3,7 +3,7 @@ use Rattle.problem_core.specs.declared.parts.Level.TheVariants.{Priority}
 use Rattle.corner_table.specs.Tables.{lists_of, problem_of, row_at}
 use Rattle.corner_writings.specs.Growing.{IsRowDear}
 use Rattle.corner_writings.proofs.LevelFacts.GrowingFacts.{growers_dear}
-use Rattle.corner_table.proofs.Readings.ReadFacts.{mark_named}
+use Rattle.corner_view.proofs.Facts.{mark_named}
 use Rattle.corner_table.proofs.Readings.WritingFacts.{in_mark}
 use Rattle.corner.proofs.safe.is_safe.Goals as goal
 

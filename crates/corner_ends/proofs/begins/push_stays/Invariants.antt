@@ -6,4 +6,4 @@ use Rattle.corner_ends.specs.Begins.{HasExchanged}
 use Rattle.corner_ends.proofs.begins.push_stays.Given as goal
 
 abbrev pub invariant-loop-stay : goal.invariant-loop-stay
-invariant-loop-stay l = (first : List Mark) → HasExchanged first l.swaps l.c.marks → l.out.items ≡ l.fn.out.items ++ lines_among first (map (λ s. StayOf s.attr) (take l.stay-index l.c.problem.stays))
+invariant-loop-stay g l = (first : List Mark) → HasExchanged first l.swaps l.c.marks → l.out.items ≡ l.fn.out.items ++ lines_among first (map (λ s. StayOf s.attr) (take l.stay-index l.c.problem.stays))

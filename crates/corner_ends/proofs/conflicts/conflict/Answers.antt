@@ -12,7 +12,7 @@ use Rattle.corner_ends.proofs.conflicts.conflict.Goals as goal
 use Rattle.frac_core.proofs.Results.{ok_implies}
 
 pub returns-clause-here : goal.returns-clause-here
-returns-clause-here c =
+returns-clause-here g c =
     let t = required_refuted c.args.c.now.problem c.args.c.now.marks c.show_corner.ensures.kept c.requires.above c.requires.columns in
     let h = c.in_ok-by.ensures t.0 t.1 in
     ok_implies c.of.result (λ (by : List By). by ≡ c.deref.result.now) (IsShownConflict c.args.c.now.problem)
@@ -21,7 +21,7 @@ returns-clause-here c =
     c.of.ensures
 
 pub returns-clause-elsewhere : goal.returns-clause-elsewhere
-returns-clause-elsewhere c =
+returns-clause-elsewhere g c =
     let t = refuted_elsewhere c.args.c.now.problem c.args.c.now.marks c.show_corner.ensures.kept c.requires.columns in
     let h = c.in_ok-by.ensures t.0 t.1 in
     ok_implies c.of.result (λ (by : List By). by ≡ c.deref.result.now) (λ (by : List By). (q : Problem) → IsProblem q → All (λ r. r.rank ≤ 1000) q.rows → AreSeenAlike c.args.c.now.problem q → CostsAbove q c.args.c.now.marks 0 → IsShownConflict q by)
@@ -30,6 +30,6 @@ returns-clause-elsewhere c =
     c.of.ensures
 
 pub of-requires : goal.of-requires
-of-requires c =
+of-requires g c =
     let t = times_exist c.args.c.now.problem c.args.c.now.marks c.show_corner.ensures.kept in
     subst AreBys (sym c.deref.ensures.value) (c.in_ok-by.ensures t.0 t.1).3.kept

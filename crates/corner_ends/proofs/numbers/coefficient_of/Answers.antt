@@ -5,6 +5,6 @@ use Rattle.corner_ends.proofs.ReadNumbers.{coefficient_is}
 use Rattle.corner_ends.proofs.numbers.coefficient_of.Goals as goal
 
 pub returns : goal.returns
-returns c = λ w h.
+returns g c = λ w h.
     let fits : SFits w64 c.coefficient.result = search rules in
     simp to_z-of_z (coefficient_is c.args.c.now.problem c.args.c.now.marks c.args.m c.args.enter c.coefficient.result w c.show_corner.ensures.kept c.coefficient.ensures h)

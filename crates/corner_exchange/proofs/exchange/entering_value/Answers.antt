@@ -8,7 +8,7 @@ use Rattle.frac_core.specs.Fraction.{IsKept, IsLowest}
 use Rattle.problem_core.specs.Corners.{Swap}
 use Rattle.problem_core.specs.declared.stops.What.{What}
 use Rattle.problem_core.specs.declared.stops.What.TheVariants.{Mark as MarkOf}
-use Rattle.corner_exchange.specs.Stops.{IsUnfitStop}
+use Rattle.corner_view.specs.Stops.{IsUnfitStop}
 use Rattle.corner_table.specs.Tables.{entry, lists_of, problem_of}
 use Rattle.corner_exchange.specs.Swaps.Exchanges.{IsEntering, IsPair, marks_after, signed}
 use Rattle.corner_exchange.proofs.Pivots.PivotFacts.{AreNumbers, enter_owner, entering, entering_unfit, size_above}

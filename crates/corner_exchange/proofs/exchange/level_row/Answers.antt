@@ -8,7 +8,7 @@ use Rattle.row_core.specs.Combinations.{IsFactor, combination_but}
 use Rattle.row_core.specs.declared.entry.Factors.{Factors}
 use Rattle.row_core.specs.declared.entry.Patch.{Patch}
 use Rattle.frac_core.specs.Stops.{IsRefused}
-use Rattle.corner_exchange.specs.Stops.{IsUnfitStop}
+use Rattle.corner_view.specs.Stops.{IsUnfitStop}
 use Rattle.corner_exchange.specs.Swaps.Exchanges.{IsPivotStop, marks_after, signed}
 use Rattle.corner_exchange.specs.Swaps.LevelChanges.{level_sum}
 use Rattle.corner_table.specs.Tables.{lists_of, problem_of}

@@ -5,7 +5,7 @@ use Rattle.frac_core.specs.Fraction.{IsFitting}
 use Rattle.row_core.specs.Rows.{coefficient}
 use Rattle.problem_core.specs.Corners.{Swap}
 use Rattle.problem_core.specs.Changes.Stops.{TableStop}
-use Rattle.corner_exchange.specs.Stops.{IsUnfitStop}
+use Rattle.corner_view.specs.Stops.{IsUnfitStop}
 use Rattle.corner_exchange.specs.Swaps.Exchanges.{IsOwnerRow, IsPivotAt, marks_after}
 use Rattle.corner_table.specs.Tables.{lists_of, problem_of, slot_at, standing_at}
 use Rattle.corner_exchange.proofs.Pivots.LineSlots.{moved_change, moved_large, what_row}

@@ -4,7 +4,7 @@ use Rattle.frac_core.specs.Fraction.{IsFitting}
 use Rattle.problem_core.specs.Corners.{Swap}
 use Rattle.problem_core.specs.Changes.Stops.{TableStop}
 use Rattle.row_core.specs.Rows.{IsKeptRow, IsReduced}
-use Rattle.corner_exchange.specs.Stops.{IsUnfitStop}
+use Rattle.corner_view.specs.Stops.{IsUnfitStop}
 use Rattle.corner_exchange.specs.Swaps.Exchanges.{IsPivotAt, marks_after, moved, signed}
 use Rattle.corner_table.specs.Tables.{entry, lists_of, problem_of}
 use Rattle.corner_exchange.proofs.Pivots.LineSlots.{err_of, ok_of, read_row, reduced_moved, unfit_moved, what_stop}

@@ -3,7 +3,7 @@ use Rattle.std.proofs.lemmas.Int.{to_z-of_z}
 use Rattle.frac_core.specs.Fraction.{IsKept, IsLowest}
 use Rattle.problem_core.specs.Corners.{Swap}
 use Rattle.problem_core.specs.Changes.Stops.{TableStop}
-use Rattle.corner_exchange.specs.Stops.{IsUnfitStop}
+use Rattle.corner_view.specs.Stops.{IsUnfitStop}
 use Rattle.corner_exchange.specs.Swaps.Exchanges.{IsPivotAt, IsValueAfter, marks_after, moved_by}
 use Rattle.corner_table.specs.Tables.{lists_of, problem_of}
 use Rattle.corner_exchange.proofs.Pivots.LineSlots.{own_above, unfit_after, value_after, what_moves, what_stop}

@@ -1,5 +1,5 @@
 use Rattle.std.proofs.lemmas.Result.{on_ok_weaker}
-use Rattle.corner_joins.specs.Stops.{IsAddStop}
+use Rattle.corner_view.specs.AddStops.{IsAddStop}
 use Rattle.corner_table.specs.Invariants.{seen_of}
 use Rattle.corner_table.specs.Tables.{lists_of}
 use Rattle.corner_joins.proofs.Additions.PartFacts.{kept_part}

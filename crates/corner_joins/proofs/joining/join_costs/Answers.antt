@@ -2,7 +2,7 @@ use Rattle.std.proofs.Common.{◌∙◌, ℕ, ◌++◌, ◌+◌, ap, sym, subst,
 use Rattle.problem_core.specs.declared.parts.RowName.TheVariants.{Held}
 use Rattle.problem_core.specs.Layout.{Row}
 use Rattle.corner_table.specs.Tables.{line_slot, lists_of, problem_of}
-use Rattle.corner_table.specs.Views.{IsNamed}
+use Rattle.corner_view.specs.Seen.{IsNamed}
 use Rattle.corner_joins.specs.Additions.CostJoins.{AreToJoin, IsCostsStop}
 use Rattle.corner_joins.proofs.Costs.CostFound.{passed_on}
 use Rattle.corner_joins.proofs.Costs.CostLoops.{here_joins, joins_at, last_kept, step_joined, step_joins, step_kept, step_stop, to_join_named}

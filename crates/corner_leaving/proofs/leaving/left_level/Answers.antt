@@ -1,7 +1,7 @@
 use Rattle.std.proofs.Common.{rules, ◌≡◌, ◌+◌, ◌-◌, ◌∙◌, pos, ap, sym, arith}
 use Rattle.corner_table.specs.declared.table.Priority.{Priority}
 use Rattle.corner_table.specs.Tables.{lists_of}
-use Rattle.corner_exchange.specs.Stops.{IsUnfitStop}
+use Rattle.corner_view.specs.Stops.{IsUnfitStop}
 use Rattle.corner_leaving.specs.Leaving.{IsLeftStop, marks_left, problem_left}
 use Rattle.corner_leaving.proofs.Removals.LeavingRows.{its_level, rows_left_is}
 use Rattle.corner_leaving.proofs.Removals.LeavingCosts.{left_stop, none_left}

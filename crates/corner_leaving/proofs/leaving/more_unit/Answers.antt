@@ -3,7 +3,7 @@ use Rattle.std.proofs.lemmas.Int.{to_z-of_z}
 use Rattle.problem_core.specs.declared.parts.RowName.TheVariants.{Held}
 use Rattle.corner_table.specs.declared.table.Slot.{Slot}
 use Rattle.corner_table.specs.Tables.{line_slot, lists_of, problem_of, slot_at}
-use Rattle.corner_table.specs.Views.{IsNamed}
+use Rattle.corner_view.specs.Seen.{IsNamed}
 use Rattle.corner_joins.specs.Additions.CostJoins.{IsUnfitRise}
 use Rattle.corner_table.specs.Reads.LevelNumbers.{IsCounted}
 use Rattle.corner_leaving.proofs.Removals.LeavingEnds.{more_never, row_counted, row_name}

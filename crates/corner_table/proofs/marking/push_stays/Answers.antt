@@ -1,7 +1,8 @@
 use Rattle.std.proofs.Common.{rules, ◌≡◌, ◌∙◌, ◌++◌, ◌<◌, ◌∷◌, [], length, map, take, slice_index_or, ap, sym}
 use Rattle.problem_core.specs.declared.parts.RowName.TheVariants.{Stay as StayOf}
 use Rattle.corner_table.specs.Tables.{inside_of, lists_of, problem_of}
-use Rattle.corner_table.proofs.Readings.MarkingFacts.{append_more, inside_more, map_next, stay_named}
+use Rattle.corner_view.proofs.Facts.{append_more}
+use Rattle.corner_table.proofs.Readings.MarkingFacts.{inside_more, map_next, stay_named}
 use Rattle.corner_table.proofs.marking.push_stays.Goals as goal
 
 pub push_inside-requires-clause-row : goal.push_inside-requires-clause-row

@@ -1,7 +1,7 @@
 use Rattle.std.proofs.Common.{◌≡◌, ℕ, ◌+◌, ◌^◌, ◌<◌, arith, subst}
 use Rattle.problem_core.specs.declared.parts.Stay.{Stay}
 use Rattle.corner_table.specs.Tables.{attr_slot, lists_of, problem_of}
-use Rattle.corner_table.specs.Views.{IsNamed}
+use Rattle.corner_view.specs.Seen.{IsNamed}
 use Rattle.corner_table.proofs.Readings.SlotFacts.{any_is, named_stay}
 use Rattle.corner_table.proofs.slots.line_slot.Goals as goal
 

@@ -3,9 +3,9 @@ use Rattle.std.specs.Int.{w64}
 use Rattle.std.proofs.lemmas.Int.{to_z-of_z}
 use Rattle.corner_table.specs.Tables.{lists_of, problem_of}
 use Rattle.corner_table.specs.Reads.LevelNumbers.{HasReducedAt, IsFirstSlot, IsSlotOfLine, reduced_at}
-use Rattle.corner_table.proofs.Readings.ReadFacts.{mark_named}
+use Rattle.corner_view.proofs.Facts.{mark_named, used_level}
 use Rattle.corner_writings.proofs.LevelFacts.LevelReadFacts.{named_line_slot}
-use Rattle.corner_writings.proofs.LevelFacts.LevelUseFacts.{is_front, no_front, used_level}
+use Rattle.corner_writings.proofs.LevelFacts.LevelUseFacts.{is_front, no_front}
 use Rattle.corner_writings.proofs.Readings.MovedFacts.{some_side}
 use Rattle.corner_writings.proofs.levels.front_of.Goals as goal
 

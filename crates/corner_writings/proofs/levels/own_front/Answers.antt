@@ -7,7 +7,8 @@ use Rattle.corner_table.specs.Kept.{HasCost}
 use Rattle.corner_table.specs.Reads.LevelNumbers.{HasReducedAt, IsFirstSlot, reduced_at}
 use Rattle.corner_writings.proofs.LevelFacts.LevelFrontFacts.{home_within}
 use Rattle.corner_writings.proofs.LevelFacts.LevelReadFacts.{home_level}
-use Rattle.corner_writings.proofs.LevelFacts.LevelUseFacts.{is_front, no_front, used_level}
+use Rattle.corner_writings.proofs.LevelFacts.LevelUseFacts.{is_front, no_front}
+use Rattle.corner_view.proofs.Facts.{used_level}
 use Rattle.corner_writings.proofs.LevelFacts.LowestFronts.{home_cost, marks_slot, own_alone, own_is_first}
 use Rattle.corner_writings.proofs.levels.own_front.Goals as goal
 

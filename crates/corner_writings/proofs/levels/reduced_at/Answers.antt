@@ -1,7 +1,7 @@
 use Rattle.std.proofs.Common.{◌≡◌, ℕ, pos, sym, subst}
 use Rattle.corner_table.specs.Tables.{lists_of, problem_of}
 use Rattle.corner_table.specs.Reads.LevelNumbers.{IsSlotOfLine, reduced_at}
-use Rattle.corner_table.proofs.Readings.ReadFacts.{mark_named}
+use Rattle.corner_view.proofs.Facts.{mark_named}
 use Rattle.corner_writings.proofs.LevelFacts.LevelReadFacts.{named_line_slot}
 use Rattle.corner_writings.proofs.levels.reduced_at.Goals as goal
 

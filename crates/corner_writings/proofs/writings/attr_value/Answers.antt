@@ -1,7 +1,7 @@
 use Rattle.std.proofs.Common.{◌∙◌, ap, subst, sym}
 use Rattle.problem_core.specs.Corners.{attr_column}
 use Rattle.corner_table.specs.Tables.{lists_of, marks_at, problem_of, standing_at}
-use Rattle.corner_table.specs.Views.{HasValueAt}
+use Rattle.corner_view.specs.Seen.{HasValueAt}
 use Rattle.corner_table.proofs.Readings.ReadFacts.{value_attr}
 use Rattle.corner_writings.proofs.writings.attr_value.Goals as goal
 

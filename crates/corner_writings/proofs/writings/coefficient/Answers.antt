@@ -3,8 +3,8 @@ use Rattle.std.specs.Int.{w64}
 use Rattle.std.proofs.lemmas.Int.{to_z-of_z}
 use Rattle.corner_lines.specs.LineEquations.{sign_of}
 use Rattle.corner_table.specs.Tables.{entry, line_slot, lists_of, marks_at, problem_of}
-use Rattle.corner_table.specs.Views.{IsCoefficientOf}
-use Rattle.corner_table.proofs.Readings.ReadFacts.{mark_named}
+use Rattle.corner_view.specs.Seen.{IsCoefficientOf}
+use Rattle.corner_view.proofs.Facts.{mark_named}
 use Rattle.corner_table.proofs.Readings.WritingFacts.{held_what, other_what, own_what}
 use Rattle.corner_writings.proofs.writings.coefficient.Goals as goal
 use Rattle.frac_core.proofs.Bools.{not-both as not_both}

@@ -2,7 +2,7 @@ use Rattle.std.proofs.Common.{◌∙◌, ap, subst, sym, ℤ, rules, SFits}
 use Rattle.std.specs.Int.{w64}
 use Rattle.std.proofs.lemmas.Int.{to_z-of_z}
 use Rattle.corner_table.specs.Tables.{entry, lists_of, marks_at, problem_of}
-use Rattle.corner_table.specs.Views.{IsScaleOf}
+use Rattle.corner_view.specs.Seen.{IsScaleOf}
 use Rattle.corner_table.proofs.Readings.WritingFacts.{held_what, scale_of}
 use Rattle.corner_writings.proofs.writings.denominator.Goals as goal
 

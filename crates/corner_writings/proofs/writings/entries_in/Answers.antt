@@ -3,7 +3,7 @@ use Rattle.std.proofs.lemmas.Option.{get_or_from_slice_get}
 use Rattle.corner_table.specs.Tables.{lists_of, problem_of, row_at}
 use Rattle.corner_writings.specs.Entries.{columns_but}
 use Rattle.corner_writings.proofs.Readings.EntryFacts.{count_but, entries_are, line_at, row_has, row_in, row_kept, slot_in}
-use Rattle.corner_table.proofs.Readings.ReadFacts.{mark_named}
+use Rattle.corner_view.proofs.Facts.{mark_named}
 use Rattle.corner_table.proofs.Readings.WritingFacts.{in_mark}
 use Rattle.corner_writings.proofs.writings.entries_in.Goals as goal
 use Rattle.frac_core.proofs.Lists.{length-mapped as map_length}

@@ -6,7 +6,7 @@ use Rattle.problem_core.specs.declared.parts.RowName.{RowName}
 use Rattle.corner_table.specs.Tables.{lists_of, problem_of, row_at}
 use Rattle.corner_writings.specs.Entries.{columns_but}
 use Rattle.corner_writings.proofs.Readings.EntryFacts.{column_slot, count_but, entry_at, few_columns, line_at, row_has, row_in, row_kept, slot_in}
-use Rattle.corner_table.proofs.Readings.ReadFacts.{mark_named}
+use Rattle.corner_view.proofs.Facts.{mark_named}
 use Rattle.corner_table.proofs.Readings.WritingFacts.{in_mark}
 use Rattle.corner_writings.proofs.writings.entry_in.Goals as goal
 

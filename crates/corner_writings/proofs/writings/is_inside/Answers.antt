@@ -1,7 +1,7 @@
 use Rattle.std.proofs.Common.{◌∙◌, sym}
 use Rattle.corner_table.specs.Tables.{lists_of, problem_of}
 use Rattle.corner_table.proofs.Readings.MarkFacts.{inside_stands, stands_inside}
-use Rattle.corner_table.proofs.Readings.ReadFacts.{mark_named}
+use Rattle.corner_view.proofs.Facts.{mark_named}
 use Rattle.corner_writings.proofs.writings.is_inside.Goals as goal
 
 pub stands_in-requires-clause-row : goal.stands_in-requires-clause-row

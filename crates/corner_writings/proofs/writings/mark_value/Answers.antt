@@ -1,8 +1,9 @@
 use Rattle.std.proofs.Common.{◌∙◌, ap, subst, sym}
 use Rattle.problem_core.specs.Corners.{place}
 use Rattle.corner_table.specs.Tables.{lists_of, marks_at, problem_of, standing_at}
-use Rattle.corner_table.specs.Views.{HasValueAt}
-use Rattle.corner_table.proofs.Readings.ReadFacts.{mark_named, value_inside, value_outside, zero_value}
+use Rattle.corner_view.specs.Seen.{HasValueAt}
+use Rattle.corner_view.proofs.Facts.{mark_named}
+use Rattle.corner_table.proofs.Readings.ReadFacts.{value_inside, value_outside, zero_value}
 use Rattle.corner_writings.proofs.writings.mark_value.Goals as goal
 
 pub stands_in-requires-clause-row : goal.stands_in-requires-clause-row

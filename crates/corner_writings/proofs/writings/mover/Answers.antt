@@ -3,7 +3,7 @@ use Rattle.problem_core.specs.declared.parts.Side.{Side}
 use Rattle.problem_core.specs.declared.stops.What.TheVariants.{Mark as MarkOf}
 use Rattle.corner_table.specs.Tables.{AreMoved, lists_of, problem_of, slot_at, standing_at}
 use Rattle.corner_writings.proofs.Readings.MovedFacts.{count_is, first_of, nth_is, nth_thing, some_side}
-use Rattle.corner_table.proofs.Readings.ReadFacts.{mark_named}
+use Rattle.corner_view.proofs.Facts.{mark_named}
 use Rattle.corner_writings.proofs.writings.mover.Goals as goal
 
 pub line_slot-line-requires-clause-row : goal.line_slot-line-requires-clause-row

@@ -3,7 +3,7 @@ use Rattle.problem_core.specs.declared.stops.What.TheVariants.{Mark as MarkOf}
 use Rattle.corner_laws.specs.Runs.{other_side}
 use Rattle.corner_table.specs.Tables.{AreMoved, lists_of, problem_of, standing_at}
 use Rattle.corner_writings.proofs.Readings.MovedFacts.{moved_are, some_side, thing, turned_are}
-use Rattle.corner_table.proofs.Readings.ReadFacts.{mark_named}
+use Rattle.corner_view.proofs.Facts.{mark_named}
 use Rattle.corner_writings.proofs.writings.movers.Goals as goal
 use Rattle.frac_core.proofs.Lists.{length-mapped as map_length}
 

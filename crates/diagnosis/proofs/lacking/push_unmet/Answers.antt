@@ -3,13 +3,13 @@ use Rattle.diagnosis.proofs.UnmetRows.{no_error, own_error, row_rank, some_error
 use Rattle.diagnosis.proofs.lacking.push_unmet.Goals as goal
 
 pub returns-then-rank-eq-REQUIRED : goal.returns-then-rank-eq-REQUIRED
-returns-then-rank-eq-REQUIRED c rows below are =
+returns-then-rank-eq-REQUIRED g c rows below are =
     let a = c.if-rank-eq-REQUIRED.true in
     let b = c.rank.ensures in
     unmet_skip rows c.args.e.now.values c.args.out.now.items c.args.row.now (λ low. absurd (omega (arith, low, a, b))) are
 
 pub returns-in_ok-push : goal.returns-in_ok-push
-returns-in_ok-push c rows below are =
+returns-in_ok-push g c rows below are =
     let a = c.if-rank-eq-REQUIRED.false in
     let b = c.rank.ensures in
     unmet_push rows c.args.e.now.values c.args.out.now.items c.push.new.self.items c.args.row.now c.in-Some.error below
@@ -21,7 +21,7 @@ returns-in_ok-push c rows below are =
     are
 
 pub returns-else-not-is_same : goal.returns-else-not-is_same
-returns-else-not-is_same c rows below are =
+returns-else-not-is_same g c rows below are =
     unmet_skip rows c.args.e.now.values c.args.out.now.items c.args.row.now
     (λ low.
     no_error c.args.e.now.values c.args.row.now c.in-Some.error c.of.result

@@ -3,4 +3,4 @@ use Rattle.diagnosis.specs.Unmet.{AreUnmet}
 use Rattle.diagnosis.proofs.lacking.unmet.Given as goal
 
 abbrev pub invariant-loop-row : goal.invariant-loop-row
-invariant-loop-row l = AreUnmet (take l.row-index l.e.problem.rows) l.e.values l.out.items
+invariant-loop-row g l = AreUnmet (take l.row-index l.e.problem.rows) l.e.values l.out.items

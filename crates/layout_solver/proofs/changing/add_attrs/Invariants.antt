@@ -4,7 +4,7 @@ use Rattle.layout_solver.specs.Starts.{CanTake, attrs_of}
 use Rattle.layout_solver.proofs.changing.add_attrs.Given as goal
 
 abbrev pub invariant-loop-attr : goal.invariant-loop-attr
-invariant-loop-attr l = record {
+invariant-loop-attr g l = record {
   room : CanTake (attrs_of l.c.problem) (drop l.attr-index l.attrs);
   problem : l.c.problem ≡ record { rows = l.fn.c.problem.rows; stays = l.fn.c.problem.stays ++ stays_at (zeros (take l.attr-index l.attrs)) };
   marks : l.c.marks ≡ l.fn.c.marks;

@@ -3,4 +3,4 @@ use Rattle.layout_solver.proofs.Posed.Moves.{moved}
 use Rattle.layout_solver.proofs.posing.moved_stays.Given as goal
 
 abbrev pub invariant-loop-stay : goal.invariant-loop-stay
-invariant-loop-stay l = l.stays.items ≡ moved (take l.stay-index l.held) l.engine.values
+invariant-loop-stay g l = l.stays.items ≡ moved (take l.stay-index l.held) l.engine.values

@@ -6,7 +6,7 @@ use Rattle.layout_solver.proofs.Posed.Moves.{stays-added}
 use Rattle.layout_solver.proofs.posing.with_more.Goals as goal
 
 pub of-requires : goal.of-requires
-of-requires c =
+of-requires g c =
     let rows_are : c.append.new.self.items ≡ c.args.engine.now.problem.rows ++ c.args.rows.items =
     c.in_ok-append.ensures.items ∙ ap (λ (rs : List Row). rs ++ c.args.rows.items) (c.in_ok-all.ensures.rows ∙ c.rows.ensures) in
     let stays_are : c.push_zeros.new.stays.items ≡ stays_at (c.args.engine.now.values ++ zeros c.args.attrs.now) =
@@ -15,7 +15,7 @@ of-requires c =
     rw (rows_are, stays_are) c.requires
 
 pub returns : goal.returns
-returns c =
+returns g c =
     let rows_are : c.append.new.self.items ≡ c.args.engine.now.problem.rows ++ c.args.rows.items =
     c.in_ok-append.ensures.items ∙ ap (λ (rs : List Row). rs ++ c.args.rows.items) (c.in_ok-all.ensures.rows ∙ c.rows.ensures) in
     let stays_are : c.push_zeros.new.stays.items ≡ stays_at (c.args.engine.now.values ++ zeros c.args.attrs.now) =

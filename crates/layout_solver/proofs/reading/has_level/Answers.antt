@@ -4,7 +4,7 @@ use Rattle.problem_core.specs.declared.parts.Level.{Level}
 use Rattle.problem_core.specs.declared.parts.Stay.{Stay}
 use Rattle.problem_core.specs.Layout.{HasStay}
 use Rattle.problem_core.specs.Levels.{IsLevelAt}
-use Rattle.corner.specs.Views.{IsLevelOf}
+use Rattle.corner_view.specs.Seen.{IsLevelOf}
 use Rattle.layout_solver.proofs.Shown.{has_stay_level, no_stay_level, priority_level}
 use Rattle.layout_solver.proofs.reading.has_level.Goals as goal
 

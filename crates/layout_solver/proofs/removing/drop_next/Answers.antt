@@ -1,8 +1,8 @@
 use Rattle.std.proofs.Common.{rules, ◌≡◌, ℕ, List, [], ◌∷◌, ◌+◌, false, get_or, subst}
 use Rattle.frac_core.specs.declared.memory.Stop.TheVariants.{Refused}
 use Rattle.problem_core.specs.Changes.Begins.{without_marks}
-use Rattle.corner.specs.Views.{CornerView}
-use Rattle.corner.specs.Changes.{IsUnfitStop}
+use Rattle.corner_view.specs.Seen.{CornerView}
+use Rattle.corner_view.specs.Stops.{IsUnfitStop}
 use Rattle.corner_lines.specs.Removals.{without_row}
 use Rattle.std.proofs.lemmas.List.{take_rest}
 use Rattle.layout_solver.specs.Removals.{IsUnfitOf}
@@ -10,14 +10,14 @@ use Rattle.layout_solver.proofs.Removals.LeftEnds.{has_mark, row_dropped, unfit_
 use Rattle.layout_solver.proofs.removing.drop_next.Goals as goal
 
 pub drop_row-requires-clause-inside : goal.drop_row-requires-clause-inside
-drop_row-requires-clause-inside c = has_mark c.args.c.now.marks _ c.requires.inside
+drop_row-requires-clause-inside g c = has_mark c.args.c.now.marks _ c.requires.inside
 
 pub returns-in-Ok-clause-gone : goal.returns-in-Ok-clause-gone
-returns-in-Ok-clause-gone c = λ p kept h.
+returns-in-Ok-clause-gone g c = λ p kept h.
     row_dropped p kept c.args.rows.now c.args.gone c.requires.within c.args.c.now c.drop_row.new.self c.in-Ok.ensures.problem c.in-Ok.ensures.marks h
 
 pub returns-in_ok-path-in-Err-Refused-clause-stop : goal.returns-in_ok-path-in-Err-Refused-clause-stop
-returns-in_ok-path-in-Err-Refused-clause-stop c = λ p kept h.
+returns-in_ok-path-in-Err-Refused-clause-stop g c = λ p kept h.
     let same : c.drop_row.new.self ≡ c.args.c.now = search rules in
     let unfit : IsUnfitStop (without_row (get_or c.args.rows.now c.args.gone 0) c.args.c.now.problem) (without_marks (get_or c.args.rows.now c.args.gone 0 ∷ []) c.args.c.now.marks) (Refused c.in-Err-Refused.quantity) = search rules in
     unfit_dropped p kept c.args.rows.now c.args.gone c.requires.within c.args.c.now c.in_ok-path-in-Err-Refused.path c.in-Err-Refused.quantity c.held_stop.result c.show_corner.ensures.kept c.requires.inside

@@ -5,16 +5,16 @@ use Rattle.problem_core.specs.declared.parts.Mark.{Mark}
 use Rattle.frac_core.specs.declared.memory.Stop.TheVariants.{Refused}
 use Rattle.problem_core.specs.Layout.{Row}
 use Rattle.corner_lines.specs.Shifts.{with_constant}
-use Rattle.corner.specs.Changes.{IsUnfitStop}
+use Rattle.corner_view.specs.Stops.{IsUnfitStop}
 use Rattle.layout_solver.specs.Shifts.{with_constants}
 use Rattle.layout_solver.proofs.Shifts.ShiftedProblems.{few_shifted, next_shifted, next_skipped, next_unfit, none_shifted, rewound_marks, shifted_path, unfit_stop}
 use Rattle.layout_solver.proofs.shifting.shift_all.Goals as goal
 
 pub loop-change-init : goal.loop-change-init
-loop-change-init c = record { shifted = none_shifted c.args.c.now.problem c.args.to.now c.requires.near; whole = c.show_corner.ensures.kept.whole; low = c.requires.low; marks = refl; before = refl; candidates = refl }
+loop-change-init g c = record { shifted = none_shifted c.args.c.now.problem c.args.to.now c.requires.near; whole = c.show_corner.ensures.kept.whole; low = c.requires.low; marks = refl; before = refl; candidates = refl }
 
 pub loop-change-preserved-then-eq : goal.loop-change-preserved-then-eq
-loop-change-preserved-then-eq c =
+loop-change-preserved-then-eq g c =
     let same : c.constant_of.result ≡ c.change-item.result.constant = search rules in record {
       shifted = next_skipped c.args.c.now.problem c.loop-change.c.problem c.args.to.now c.loop-change.change-index c.loop-change.changed c.change-item.result c.loop-change-test.true c.change-item.is c.loop-change.invariant.shifted c.constant_of.result
           (subst (λ (rs : List Row). All (λ (r : Row). r.id ≡ c.change-item.result.row → r.constant ≡ c.constant_of.result) rs) c.rows.ensures c.constant_of.ensures) same;
@@ -26,12 +26,12 @@ loop-change-preserved-then-eq c =
     }
 
 pub overflow_add-changed : goal.overflow_add-changed
-overflow_add-changed c =
+overflow_add-changed g c =
     let few : c.loop-change.changed ≤ 4096 = few_shifted c.args.c.now.problem c.loop-change.c.problem c.args.to.now c.loop-change.change-index c.loop-change.changed c.show_corner.ensures.kept.whole c.loop-change.invariant.shifted in
     omega (arith, few)
 
 pub returns-in-Err-Refused-clause-stop : goal.returns-in-Err-Refused-clause-stop
-returns-in-Err-Refused-clause-stop c =
+returns-in-Err-Refused-clause-stop g c =
     let other : c.constant_of.result ≢ c.change-item.result.constant = search rules in
     unfit_stop (with_constants c.args.to.now c.args.c.now.problem) (with_constant c.change-item.result.row c.change-item.result.constant c.loop-change.c.problem) c.args.c.now.problem.rows c.shift.new.c.marks c.args.c.now.marks c.in-Err-Refused.quantity (c.loop-change.changed + 1) c.shifts_stop.result
     (rw c.in-Err-Refused.field-0-is at c.shifts_stop.ensures)
@@ -57,7 +57,7 @@ apart a b r is off same =
     absurd (cc)
 
 pub loop-change-preserved : goal.loop-change-preserved
-loop-change-preserved c =
+loop-change-preserved g c =
     let other : c.constant_of.result ≢ c.change-item.result.constant = apart c.constant_of.result c.change-item.result.constant c.eq.result c.eq.ensures c.if-eq.false in record {
       shifted = next_shifted c.args.c.now.problem c.loop-change.c.problem c.args.to.now c.loop-change.change-index c.loop-change.changed c.change-item.result c.loop-change-test.true c.change-item.is c.loop-change.invariant.shifted c.requires.rising c.show_corner.ensures.kept.whole.rising c.constant_of.result
           (subst (λ (rs : List Row). All (λ (r : Row). r.id ≡ c.change-item.result.row → r.constant ≡ c.constant_of.result) rs) c.rows.ensures c.constant_of.ensures) other c.shift.new.c.problem c.in-Ok.ensures.problem;

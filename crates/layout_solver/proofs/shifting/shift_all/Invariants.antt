@@ -5,7 +5,7 @@ use Rattle.layout_solver.proofs.Shifts.ShiftedProblems.{HasShifted}
 use Rattle.layout_solver.proofs.shifting.shift_all.Given as goal
 
 abbrev pub invariant-loop-change : goal.invariant-loop-change
-invariant-loop-change l = record {
+invariant-loop-change g l = record {
   shifted : HasShifted l.fn.c.problem l.to l.change-index l.changed l.c.problem;
   whole : IsWhole l.c.problem;
   low : AreLowLines l.c.problem l.c.marks l.low.items;

@@ -5,7 +5,7 @@ use Rattle.layout_solver.proofs.Starts.FirstStays.{next_fresh}
 use Rattle.layout_solver.proofs.starting.add_stays.Goals as goal
 
 pub add_attr-requires-clause-fresh : goal.add_attr-requires-clause-fresh
-add_attr-requires-clause-fresh c =
+add_attr-requires-clause-fresh g c =
     let is : get_or c.args.stays.now c.loop-stay.stay-index c.stay-item.result ≡ c.stay-item.result = search rules in
     subst (λ (p : Problem). HasStay p.stays c.stay-item.result.attr → ⊥) (sym c.loop-stay.invariant.problem)
     (subst (λ (s : Stay). HasStay (take c.loop-stay.stay-index c.args.stays.now) s.attr → ⊥) is

@@ -5,7 +5,7 @@ use Rattle.layout_solver.specs.Trials.{AreLed}
 use Rattle.layout_solver.proofs.starting.join_each.Given as goal
 
 abbrev pub invariant-loop-i : goal.invariant-loop-i
-invariant-loop-i l = record {
+invariant-loop-i g l = record {
   problem : l.c.problem ≡ as_problem (take l.i l.rows) l.fn.c.problem.stays;
   values : NoNegativeValue l.c.problem l.c.marks;
   before : l.c.before ≡ l.fn.c.before;

@@ -2,12 +2,12 @@ use Rattle.std.proofs.Common.{◌≡◌, ◌∙◌, false, List, [], ◌∷◌, 
 use Rattle.problem_core.specs.declared.parts.Mark.{Mark}
 use Rattle.problem_core.specs.Corners.{Swap, exchanged}
 use Rattle.corner_ends.specs.Begins.{HasExchanged}
-use Rattle.corner_ends.specs.Views.{in_order}
+use Rattle.corner_view.specs.Seen.{in_order}
 use Rattle.marker_remove.proofs.FreedPaths.{back_of, ordered_again, ordered_same, went_back}
 use Rattle.marker_remove.proofs.freeing.freed_path.Goals as goal
 
 pub returns : goal.returns
-returns c =
+returns g c =
     subst (λ (ms : List Mark). IfOk c.of.result (λ path. path ≡ record { dual = false; corner = ms; swaps = [] }))
     (c.deref.ensures.value
     ∙ c.in_ok-marks.ensures (in_order c.args.c.now.problem (exchanged c.args.swap c.args.c.now.marks))

@@ -4,7 +4,7 @@ use Rattle.primal_run.specs.Entering.{IsChoice}
 use Rattle.primal_run.proofs.entering.pick.Goals as goal
 
 pub loop-i-preserved : goal.loop-i-preserved
-loop-i-preserved c = record {
+loop-i-preserved g c = record {
   problem = c.see-seen.ensures.problem ∙ c.loop-i.invariant.problem;
   marks = c.see-seen.ensures.marks ∙ c.loop-i.invariant.marks;
   before = c.see-seen.ensures.before ∙ c.loop-i.invariant.before;

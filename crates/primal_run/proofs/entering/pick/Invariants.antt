@@ -3,7 +3,7 @@ use Rattle.primal_run.specs.Entering.{IsChoice}
 use Rattle.primal_run.proofs.entering.pick.Given as goal
 
 abbrev pub invariant-loop-i : goal.invariant-loop-i
-invariant-loop-i l = record {
+invariant-loop-i g l = record {
   problem : l.c.problem ≡ l.fn.c.problem;
   marks : l.c.marks ≡ l.fn.c.marks;
   before : l.c.before ≡ l.fn.c.before;
@@ -12,4 +12,4 @@ invariant-loop-i l = record {
 }
 
 abbrev pub decreases-loop-i : goal.decreases-loop-i
-decreases-loop-i l = length l.c.candidates - l.i
+decreases-loop-i g l = length l.c.candidates - l.i

@@ -10,10 +10,10 @@ use Rattle.corner_ends.proofs.Trails.{run_lawful, run_sound}
 use Rattle.primal_run.proofs.settling.run_on.Goals as goal
 
 pub exchange-requires-clause-trail : goal.exchange-requires-clause-trail
-exchange-requires-clause-trail c = (c.args.c.now.marks, c.loop-alloc.invariant.trail)
+exchange-requires-clause-trail g c = (c.args.c.now.marks, c.loop-alloc.invariant.trail)
 
 pub returns-then-is_spent-clause-stop : goal.returns-then-is_spent-clause-stop
-returns-then-is_spent-clause-stop c =
+returns-then-is_spent-clause-stop g c =
     let least = c.is_spent.ensures.yes c.if-is_spent.true in
     let most = c.loop-alloc.invariant.few in
     let full : length c.loop-alloc.trail.swaps ≡ c.args.budget = omega (arith, least, most) in
@@ -22,14 +22,14 @@ returns-then-is_spent-clause-stop c =
     (c.spent.ensures false c.args.c.now.marks c.loop-alloc.invariant.trail c.loop-alloc.invariant.enter.no_end))
 
 pub returns-in_err-exchange-clause-stop : goal.returns-in_err-exchange-clause-stop
-returns-in_err-exchange-clause-stop c =
+returns-in_err-exchange-clause-stop g c =
     let short : length c.loop-alloc.trail.swaps < c.args.budget = search rules in
     let p = err_from_is_err_and c.from_residual.result c.from_residual.ensures.1 in
     rw (p.1, p.2)
     (stop_moved false c.loop-alloc.c.problem c.args.c.now.problem c.args.c.now.marks c.args.c.now.marks c.args.budget c.in_err-exchange.field-0.0 c.loop-alloc.invariant.problem refl (c.in_err-exchange.ensures.stop c.args.c.now.marks c.loop-alloc.invariant.trail c.args.budget short))
 
 pub returns-in-None-clause-end : goal.returns-in-None-clause-end
-returns-in-None-clause-end c =
+returns-in-None-clause-end g c =
     let run = c.in_ok-exchange.ensures.trail c.args.c.now.marks c.loop-alloc.invariant.trail in
     let end = best_end c.exchange.new.c.problem c.entering.new.c.problem c.exchange.new.c.marks c.entering.new.c.marks c.entering.ensures.problem c.entering.ensures.marks
     (run_sound false c.exchange.new.c.problem c.args.c.now.marks c.exchange.new.c.marks c.exchange.new.trail.swaps run.swapped) (none_here c.in_ok-found.found c.in_ok-found.found (NoNegativeColumn c.exchange.new.c.problem c.exchange.new.c.marks) (NoNegativeColumn c.exchange.new.c.problem c.exchange.new.c.marks) c.in_ok-found.ensures.columns c.in-None.is)
@@ -37,7 +37,7 @@ returns-in-None-clause-end c =
     record { end = end; listed = none_here c.in_ok-found.found c.in_ok-found.found (c.entering.new.c.candidates ≡ []) (c.entering.new.c.candidates ≡ []) c.in_ok-found.ensures.listed c.in-None.is }
 
 pub returns-in-None-clause-path : goal.returns-in-None-clause-path
-returns-in-None-clause-path c =
+returns-in-None-clause-path g c =
     let short : length c.loop-alloc.trail.swaps < c.args.budget = search rules in
     let more = c.in_ok-exchange.ensures.more in
     let run = c.in_ok-exchange.ensures.trail c.args.c.now.marks c.loop-alloc.invariant.trail in

@@ -4,7 +4,7 @@ use Rattle.corner_ends.specs.Trails.{IsTrailOf}
 use Rattle.primal_run.proofs.settling.run_on.Given as goal
 
 abbrev pub invariant-loop-alloc : goal.invariant-loop-alloc
-invariant-loop-alloc l = record {
+invariant-loop-alloc g l = record {
   problem : l.c.problem ≡ l.fn.c.problem;
   before : l.c.before ≡ l.fn.c.before;
   trail : IsTrailOf false l.c.problem l.fn.c.marks l.trail l.c.marks;
@@ -13,4 +13,4 @@ invariant-loop-alloc l = record {
 }
 
 abbrev pub decreases-loop-alloc : goal.decreases-loop-alloc
-decreases-loop-alloc l = l.budget - length l.trail.swaps
+decreases-loop-alloc g l = l.budget - length l.trail.swaps

@@ -12,22 +12,22 @@ use Rattle.corner_ends.proofs.Trails.{run_begins, run_lawful}
 use Rattle.primal_run.proofs.settling.settle.Goals as goal
 
 pub returns-in-None-clause-end : goal.returns-in-None-clause-end
-returns-in-None-clause-end c =
+returns-in-None-clause-end g c =
     let end = best_end c.args.c.now.problem c.entering.new.c.problem c.args.c.now.marks c.entering.new.c.marks c.entering.ensures.problem c.entering.ensures.marks c.requires.values
     (none_here c.in_ok-found.found c.in_ok-found.found (NoNegativeColumn c.args.c.now.problem c.args.c.now.marks) (NoNegativeColumn c.args.c.now.problem c.args.c.now.marks) c.in_ok-found.ensures.columns c.in-None.is)
     (none_here c.in_ok-found.found c.in_ok-found.found (CostsAbove c.args.c.now.problem c.args.c.now.marks 0 → ⊥) (CostsAbove c.args.c.now.problem c.args.c.now.marks 0 → ⊥) c.in_ok-found.ensures.costs c.in-None.is) in
     record { end = end; listed = none_here c.in_ok-found.found c.in_ok-found.found (c.entering.new.c.candidates ≡ []) (c.entering.new.c.candidates ≡ []) c.in_ok-found.ensures.listed c.in-None.is }
 
 pub returns-in-None-clause-path : goal.returns-in-None-clause-path
-returns-in-None-clause-path c =
+returns-in-None-clause-path g c =
     let begun = run_begins false c.args.c.now.problem c.args.c.now.marks c.show_corner.ensures.kept c.requires.values in
     run_made false c.args.c.now.problem c.args.c.now.problem c.args.c.now.marks c.args.c.now.marks c.args.c.now.marks c.entering.new.c.marks [] c.args.budget (run_lawful false c.args.c.now.problem c.args.c.now.marks c.args.c.now.marks [] begun) (same_self c.args.c.now.marks) refl refl c.entering.ensures.marks (omega arith)
 
 pub run_on-requires-clause-values : goal.run_on-requires-clause-values
-run_on-requires-clause-values c =
+run_on-requires-clause-values g c =
     subst (λ (p : Problem). NoNegativeValue p c.entering.new.c.marks) (sym c.entering.ensures.problem) (subst (λ (at : List Mark). NoNegativeValue c.args.c.now.problem at) (sym c.entering.ensures.marks) c.requires.values)
 
 pub returns-in-Some-clause-path : goal.returns-in-Some-clause-path
-returns-in-Some-clause-path c =
+returns-in-Some-clause-path g c =
     subst (λ (p : Problem). IfOk c.run_on.result (λ _. (path : Path) × IsRun false p (λ at. at ≡ c.args.c.now.marks) c.args.budget c.run_on.new.c.marks path)) c.entering.ensures.problem
     (subst (λ (ms : List Mark). IfOk c.run_on.result (λ _. (path : Path) × IsRun false c.entering.new.c.problem (λ at. at ≡ ms) c.args.budget c.run_on.new.c.marks path)) c.entering.ensures.marks c.run_on.ensures.path)

@@ -7,7 +7,7 @@ use Rattle.primal_run.proofs.Counts.{count_inside, count_outside, count_self}
 use Rattle.primal_run.proofs.ties.count.Goals as goal
 
 pub returns-then-eq : goal.returns-then-eq
-returns-then-eq c = λ w h.
+returns-then-eq g c = λ w h.
     let fits : SFits w64 c.scale.result = search rules in
     let all : SFits w128 c.product.result = search rules in
     let same : c.args.m ≡ c.args.f = search rules in
@@ -15,13 +15,13 @@ returns-then-eq c = λ w h.
     to_z-of_z w128 c.product.result all ∙ count_self c.args.c.now.problem c.args.c.now.marks c.args.m c.args.f c.scale.result c.args.by c.product.result w same (c.scale.ensures.of w h) (e ∙ ap (λ z. z *ℤ c.args.by) (to_z-of_z w64 c.scale.result fits))
 
 pub returns-then-is_inside : goal.returns-then-is_inside
-returns-then-is_inside c = λ w h.
+returns-then-is_inside g c = λ w h.
     let other : c.args.m ≡ c.args.f → ⊥ = search rules in
     let inside : IsIn (place c.args.f) c.args.c.now.marks = search rules in
     count_inside c.args.c.now.problem c.args.c.now.marks c.args.m c.args.f c.args.by w h inside (λ e. other (one_mark c.args.m c.args.f e))
 
 pub returns : goal.returns
-returns c = λ w h.
+returns g c = λ w h.
     let fits : SFits w64 c.coefficient_of.result = search rules in
     let some : SFits w128 c.product-2.result = search rules in
     let all : SFits w128 c.opposite.result = search rules in

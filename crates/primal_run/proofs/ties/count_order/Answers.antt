@@ -7,7 +7,7 @@ use Rattle.corner_laws.specs.Runs.{count_at}
 use Rattle.primal_run.proofs.ties.count_order.Goals as goal
 
 pub returns : goal.returns
-returns c = λ v w h g.
+returns g c = λ v w h g.
     let by-a : SFits w64 c.args.a.by = search rules in
     let by-b : SFits w64 c.args.b.by = search rules in
     let first : SFits w128 c.count.result = search rules in

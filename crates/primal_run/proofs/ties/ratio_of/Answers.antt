@@ -6,10 +6,10 @@ use Rattle.primal_run.proofs.Counts.{ratio_made}
 use Rattle.primal_run.proofs.ties.ratio_of.Goals as goal
 
 pub value-value-requires : goal.value-value-requires
-value-value-requires c = record { mark = in_mark c.args.c.now.problem c.args.c.now.marks c.args.m c.show_corner.ensures.kept c.requires.inside }
+value-value-requires g c = record { mark = in_mark c.args.c.now.problem c.args.c.now.marks c.args.m c.show_corner.ensures.kept c.requires.inside }
 
 pub returns-clause-some : goal.returns-clause-some
-returns-clause-some c =
+returns-clause-some g c =
     let by-fits : SFits w64 c.coefficient_of-by.result = search rules in
     let num-fits : SFits w64 c.num.result = search rules in
     let scale-fits : SFits w64 c.scale.result = search rules in

@@ -4,7 +4,7 @@ use Rattle.reply_texts.proofs.EachView.{text_more, view_there}
 use Rattle.reply_texts.proofs.frames.push_frames.Goals as goal
 
 pub loop-place-preserved : goal.loop-place-preserved
-loop-place-preserved c =
+loop-place-preserved g c =
     let views = c.args.scene.now.scene.tree.views in
     let there = view_there views c.loop-place.place (omega (arith, c.loop-place-test.true, c.loop-place.invariant.is_end)) in
     record {

@@ -6,19 +6,19 @@ use Rattle.scenes.proofs.Engines.Additions.{first-can, first-posed}
 use Rattle.scenes.proofs.scene.begin.Goals as goal
 
 pub solve-requires : goal.solve-requires
-solve-requires c = record {
+solve-requires g c = record {
   room = subst (λ (l : Layout). length l.earlier < VERSION_LIMIT) (sym c.requires.new) (lit< tt);
   can = first-can c.args.engine.now c.args.request.now c.requires.new c.requires.first;
 }
 
 pub forget-requires : goal.forget-requires
-forget-requires c = rw c.in-Ok.ensures.earlier (omega arith)
+forget-requires g c = rw c.in-Ok.ensures.earlier (omega arith)
 
 pub returns-clause-problem : goal.returns-clause-problem
-returns-clause-problem c =
+returns-clause-problem g c =
     ap (λ (s : Solution). s.problem) c.forget.ensures.solution ∙ c.in-Ok.ensures.problem
     ∙ first-posed c.args.engine.now c.args.request.now c.requires.new c.requires.first
 
 pub returns-clause-earlier : goal.returns-clause-earlier
-returns-clause-earlier c =
+returns-clause-earlier g c =
     first-forgotten c.args.engine.now c.solve.new.self.earlier c.forget.new.self.earlier (ap (λ (l : Layout). l.earlier) c.requires.new) c.in-Ok.ensures.earlier c.forget.ensures.earlier

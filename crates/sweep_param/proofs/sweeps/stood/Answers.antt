@@ -5,7 +5,7 @@ use Rattle.sweep_param.proofs.Standing.{alone_put, stood_sweep}
 use Rattle.sweep_param.proofs.sweeps.stood.Goals as goal
 
 pub returns : goal.returns
-returns c =
+returns g c =
     let r = c.args.range.now in
     let values = c.in_ok-values.values in
     let put : c.push.new.self.items ≡ c.new-out.result.items ++ (c.in_ok-lone_piece.field-0 ∷ []) = search rules in

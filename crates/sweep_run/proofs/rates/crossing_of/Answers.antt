@@ -9,15 +9,15 @@ use Rattle.sweep_run.proofs.Soonest.{crossing_is}
 use Rattle.sweep_run.proofs.rates.crossing_of.Goals as goal
 
 pub value-value-requires : goal.value-value-requires
-value-value-requires c = record { mark = in_mark c.args.c.now.problem c.args.c.now.marks c.args.mark c.show_corner.ensures.kept c.requires.low.inside }
+value-value-requires g c = record { mark = in_mark c.args.c.now.problem c.args.c.now.marks c.args.mark c.show_corner.ensures.kept c.requires.low.inside }
 
 pub overflow_sub-result : goal.overflow_sub-result
-overflow_sub-result c =
+overflow_sub-result g c =
     let p : SFits w128 c.product.result = search rules in
     simp to_z-of_z (product_turns c.product.result c.product.ensures.small)
 
 pub returns-clause-crossing : goal.returns-clause-crossing
-returns-clause-crossing c =
+returns-clause-crossing g c =
     let n : SFits w64 c.num.result = search rules in
     let d : SFits w64 c.den.result = search rules in
     let rn : SFits w64 c.mark_rate-rate.result.n = search rules in

@@ -11,7 +11,7 @@ use Rattle.sweep_run.proofs.EndFacts.{end_is_kept}
 use Rattle.sweep_run.proofs.rates.mark_rate.Goals as goal
 
 pub returns-then-eq : goal.returns-then-eq
-returns-then-eq c =
+returns-then-eq g c =
     let fits : SFits w64 c.backwards.result = search rules in
     let same : c.args.mark ≡ c.over.result = search rules in
     let over : c.args.mark ≡ own c.args.way.now.row Over = same ∙ c.over.ensures in

@@ -9,7 +9,7 @@ use Rattle.sweep_run.proofs.Finishing.{clashed_slid, stretches_more}
 use Rattle.sweep_run.proofs.slides.push_clash.Goals as goal
 
 pub returns : goal.returns
-returns c =
+returns g c =
     let p = c.args.c.now.problem in
     let w = c.args.way.now in
     let last = there_is_here w c.args.c.now c.requires.held in

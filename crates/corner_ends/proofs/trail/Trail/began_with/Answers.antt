@@ -6,6 +6,6 @@ use Rattle.corner_ends.proofs.Trails.{run_exchanges}
 use Rattle.corner_ends.proofs.trail.Trail.began_with.Goals as goal
 
 pub returns : goal.returns
-returns c = λ dual first trail.
+returns g c = λ dual first trail.
     c.was_inside.ensures first
     (subst (λ (xs : List Swap). HasExchanged first xs c.args.c.now.marks) (sym (c.deref.ensures.value ∙ ap (λ (t : Trail). t.swaps) c.self.view_is)) (run_exchanges dual c.args.c.now.problem first c.args.c.now.marks c.args.self.now.swaps trail.swapped))

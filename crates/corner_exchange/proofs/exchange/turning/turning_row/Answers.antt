@@ -8,7 +8,7 @@ use Rattle.row_core.specs.declared.entry.Factors.{Factors}
 use Rattle.row_core.specs.declared.entry.Patch.{Patch}
 use Rattle.frac_core.specs.Stops.{IsRefused}
 use Rattle.corner_table.specs.declared.table.Slot.{Slot}
-use Rattle.corner_exchange.specs.Stops.{IsUnfitStop}
+use Rattle.corner_view.specs.Stops.{IsUnfitStop}
 use Rattle.corner_exchange.specs.Swaps.Exchanges.{marks_after}
 use Rattle.corner_table.specs.Tables.{entry, lists_of, problem_of, row_at}
 use Rattle.corner_exchange.specs.Swaps.TurnedLevels.{IsTurnStop, turned_sum}

@@ -1,7 +1,7 @@
 use Rattle.std.proofs.Common.{rules, ◌≡◌, ◌≢◌, ◌+◌, ◌-◌, ◌<◌, nat_eq, true, false, length, slice_index_or, sym, subst, ℕ}
 use Rattle.problem_core.specs.declared.parts.RowName.TheVariants.{Held}
 use Rattle.corner_table.specs.Tables.{line_slot, lists_of, problem_of, slot_at}
-use Rattle.corner_table.specs.Views.{IsNamed}
+use Rattle.corner_view.specs.Seen.{IsNamed}
 use Rattle.corner_table.specs.Reads.LevelNumbers.{IsCounted}
 use Rattle.corner_writings.specs.Fitting.{IsFittingLine}
 use Rattle.corner_table.proofs.Readings.MarkingFacts.{row_named}

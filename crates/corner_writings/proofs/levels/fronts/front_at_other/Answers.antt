@@ -4,7 +4,7 @@ use Rattle.std.proofs.lemmas.Int.{to_z-of_z}
 use Rattle.corner_lines.specs.LineEquations.{sign_of}
 use Rattle.corner_table.specs.Tables.{lists_of, problem_of}
 use Rattle.corner_table.specs.Reads.LevelNumbers.{IsFirstSlot, IsSlotOfLine, reduced_at, times_at}
-use Rattle.corner_table.proofs.Readings.ReadFacts.{mark_named}
+use Rattle.corner_view.proofs.Facts.{mark_named}
 use Rattle.corner_writings.proofs.LevelFacts.LevelFrontFacts.{cost_level}
 use Rattle.corner_writings.proofs.LevelFacts.LevelReadFacts.{named_line_slot, reduced_elsewhere}
 use Rattle.corner_writings.proofs.LevelFacts.LevelUseFacts.{is_front}

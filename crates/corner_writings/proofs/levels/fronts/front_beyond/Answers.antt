@@ -1,9 +1,9 @@
 use Rattle.std.proofs.Common.{◌≡◌, ◌∙◌, ◌<◌, ℕ, arith, subst, sym}
 use Rattle.corner_table.specs.Tables.{lists_of, problem_of}
 use Rattle.corner_table.specs.Reads.LevelNumbers.{HasReducedAt, IsSlotOfLine}
-use Rattle.corner_table.proofs.Readings.ReadFacts.{mark_named}
+use Rattle.corner_view.proofs.Facts.{mark_named, used_level}
 use Rattle.corner_writings.proofs.LevelFacts.LevelReadFacts.{named_line_slot}
-use Rattle.corner_writings.proofs.LevelFacts.LevelUseFacts.{no_front, used_level}
+use Rattle.corner_writings.proofs.LevelFacts.LevelUseFacts.{no_front}
 use Rattle.corner_writings.proofs.LevelFacts.LowestFronts.{next_is_strongest, nothing_beyond}
 use Rattle.corner_writings.proofs.levels.fronts.front_beyond.Goals as goal
 

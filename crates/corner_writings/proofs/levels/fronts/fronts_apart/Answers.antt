@@ -1,6 +1,6 @@
 use Rattle.problem_core.specs.declared.parts.Side.TheVariants.{Over, Under}
 use Rattle.corner_table.specs.Tables.{lists_of, problem_of}
-use Rattle.corner_table.proofs.Readings.ReadFacts.{named_in}
+use Rattle.corner_view.proofs.Facts.{named_in}
 use Rattle.corner_writings.proofs.levels.fronts.fronts_apart.Goals as goal
 
 pub front_of-requires-clause-mark : goal.front_of-requires-clause-mark

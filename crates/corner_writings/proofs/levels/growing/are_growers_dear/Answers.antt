@@ -2,7 +2,7 @@ use Rattle.std.proofs.Common.{subst, ℕ}
 use Rattle.corner_writings.specs.Growing.{IsRowDear}
 use Rattle.corner_table.specs.Tables.{lists_of, problem_of, row_at}
 use Rattle.corner_writings.proofs.LevelFacts.GrowingFacts.{growers_dear}
-use Rattle.corner_table.proofs.Readings.ReadFacts.{mark_named}
+use Rattle.corner_view.proofs.Facts.{mark_named}
 use Rattle.corner_table.proofs.Readings.WritingFacts.{in_mark}
 use Rattle.corner_writings.proofs.levels.growing.are_growers_dear.Goals as goal
 

@@ -20,7 +20,7 @@ use Rattle.scenes.proofs.Stepped.{step-can, step-posed}
 use Rattle.scenes.proofs.scene.Scene.core.Goals as goal
 
 pub core_of-requires : goal.core_of-requires
-core_of-requires c =
+core_of-requires g c =
     let is : IsStepTo (scene_at c.self.inside.tree c.self.inside.metrics (items_of c.self.inside.items.items) c.self.inside.setting c.self.inside.engine) c.args.draft c.in_ok-step.step = subst (λ (h : History). IsStepTo h.scene c.args.draft c.in_ok-step.step) (sym c.self.view_is) c.in_ok-step.ensures in
     record {
       room = few-solutions c.self.inside.undo c.self.inside.items.before c.self.inside.engine.earlier c.self.inside.pasts.items c.self.invariant.1;
@@ -28,14 +28,14 @@ core_of-requires c =
     }
 
 pub returns-in_err-step-clause-stop : goal.returns-in_err-step-clause-stop
-returns-in_err-step-clause-stop c =
+returns-in_err-step-clause-stop g c =
     let exit = err_from_is_err_and c.from_residual.result c.from_residual.ensures.1 in
     let may : MayTake (scene_at c.self.inside.tree c.self.inside.metrics (items_of c.self.inside.items.items) c.self.inside.setting c.self.inside.engine) c.args.draft = subst (λ (h : History). MayTake h.scene c.args.draft) (sym c.self.view_is) c.requires in
     let posed : (p : Problem) × IsProblemOf (drafted (scene_at c.self.inside.tree c.self.inside.metrics (items_of c.self.inside.items.items) c.self.inside.setting c.self.inside.engine) c.args.draft) p = draft-posed c.self.inside.tree c.self.inside.metrics (items_of c.self.inside.items.items) c.self.inside.setting c.self.inside.engine c.self.invariant.0.scene c.show_layout.ensures.layout c.args.draft c.len-count.ensures.tree may in
     rw (exit.1, exit.2, ← c.self.view_is) (posed.0, posed.1, tt)
 
 pub returns-clause-found : goal.returns-clause-found
-returns-clause-found c =
+returns-clause-found g c =
     let is : IsStepTo (scene_at c.self.inside.tree c.self.inside.metrics (items_of c.self.inside.items.items) c.self.inside.setting c.self.inside.engine) c.args.draft c.in_ok-step.step = subst (λ (h : History). IsStepTo h.scene c.args.draft c.in_ok-step.step) (sym c.self.view_is) c.in_ok-step.ensures in
     rw (← c.self.view_is)
     (IfOk-weaker c.core_of.result (IsFound (posed_by c.self.inside.engine c.in_ok-step.step.request)) (λ (f : Found). (p : Problem) × IsProblemOf (drafted (scene_at c.self.inside.tree c.self.inside.metrics (items_of c.self.inside.items.items) c.self.inside.setting c.self.inside.engine) c.args.draft) p × IsWhole p × IsFound p f)
@@ -47,20 +47,20 @@ returns-clause-found c =
     )) c.core_of.ensures.found)
 
 pub returns-clause-stop : goal.returns-clause-stop
-returns-clause-stop c =
+returns-clause-stop g c =
     let is : IsStepTo (scene_at c.self.inside.tree c.self.inside.metrics (items_of c.self.inside.items.items) c.self.inside.setting c.self.inside.engine) c.args.draft c.in_ok-step.step = subst (λ (h : History). IsStepTo h.scene c.args.draft c.in_ok-step.step) (sym c.self.view_is) c.in_ok-step.ensures in
     rw (← c.self.view_is)
     (IfErr-weaker c.core_of.result (IsCoreStop (posed_by c.self.inside.engine c.in_ok-step.step.request) c.args.budget) (λ (s : CoreStop). (p : Problem) × IsProblemOf (drafted (scene_at c.self.inside.tree c.self.inside.metrics (items_of c.self.inside.items.items) c.self.inside.setting c.self.inside.engine) c.args.draft) p × IsCoreStop p c.args.budget s)
     (λ s stops. (posed_by c.self.inside.engine c.in_ok-step.step.request, step-posed c.self.inside.tree c.self.inside.metrics (items_of c.self.inside.items.items) c.self.inside.setting c.self.inside.engine c.self.invariant.0.scene c.show_layout.ensures.layout c.args.draft c.in_ok-step.step is (posed_by c.self.inside.engine c.in_ok-step.step.request) refl, stops)) c.core_of.ensures.stop)
 
 pub invariant_of-self : goal.invariant_of-self
-invariant_of-self c = (
+invariant_of-self g c = (
   unchanged-IsKept c.self.inside.tree c.self.inside.metrics c.self.inside.items c.self.inside.items c.self.inside.setting c.self.inside.engine c.core_of.new.e c.self.inside.pasts.items c.self.inside.undo refl c.core_of.ensures.same c.self.invariant.0,
   unchanged-AreAlike c.self.inside.tree c.self.inside.metrics c.self.inside.items c.self.inside.items c.self.inside.setting c.self.inside.engine c.core_of.new.e c.self.inside.pasts.items c.self.inside.undo refl c.core_of.ensures.same c.self.invariant.1,
   c.self.invariant.2,
 )
 
 pub returns-clause-same : goal.returns-clause-same
-returns-clause-same c =
+returns-clause-same g c =
     rw (← c.self.view_is)
     (unchanged c.self.inside.tree c.self.inside.metrics c.self.inside.items c.self.inside.items c.self.inside.setting c.self.inside.engine c.core_of.new.e c.self.inside.pasts.items c.self.inside.undo refl c.core_of.ensures.same)

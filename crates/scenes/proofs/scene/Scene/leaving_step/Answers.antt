@@ -9,7 +9,7 @@ use Rattle.scenes.proofs.DraftSteps.{leaving-step}
 use Rattle.scenes.proofs.scene.Scene.leaving_step.Goals as goal
 
 pub returns : goal.returns
-returns c =
+returns g c =
     let may : MayTake (scene_at c.self.inside.tree c.self.inside.metrics (items_of c.self.inside.items.items) c.self.inside.setting c.self.inside.engine) (draft.Out c.args.leaver) = subst (λ (h : History). MayTake h.scene (draft.Out c.args.leaver)) (sym c.self.view_is) c.requires in
     let are : AreLeaving (items_of c.self.inside.items.items) c.args.leaver c.in_ok-request.request = rw (← c.self.view_is) at c.in_ok-request.ensures in
     rw (c.plain_step-step.ensures, c.in_ok-tree.ensures, ← c.self.view_is) (leaving-step c.self.inside.tree c.self.inside.metrics (items_of c.self.inside.items.items) c.self.inside.setting c.self.inside.engine c.self.invariant.0.scene c.show_layout.ensures.layout c.args.leaver c.in_ok-request.request are c.len-count.ensures.tree may)

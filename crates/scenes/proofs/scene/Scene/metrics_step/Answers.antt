@@ -8,6 +8,6 @@ use Rattle.scenes.proofs.DraftSteps.{metrics-step}
 use Rattle.scenes.proofs.scene.Scene.metrics_step.Goals as goal
 
 pub returns : goal.returns
-returns c =
+returns g c =
     let may : MayTake (scene_at c.self.inside.tree c.self.inside.metrics (items_of c.self.inside.items.items) c.self.inside.setting c.self.inside.engine) (draft.Metrics c.args.new) = subst (λ (h : History). MayTake h.scene (draft.Metrics c.args.new)) (sym c.self.view_is) c.requires in
     rw (c.plain_step-step.ensures, ← c.self.view_is) (metrics-step c.self.inside.tree c.self.inside.metrics (items_of c.self.inside.items.items) c.self.inside.setting c.self.inside.engine c.self.invariant.0.scene c.show_layout.ensures.layout c.args.new may)

@@ -8,7 +8,7 @@ use Rattle.scenes.proofs.MovedFrames.{frames_since, shown_of}
 use Rattle.scenes.proofs.scene.Scene.moved.Goals as goal
 
 pub moved-requires : goal.moved-requires
-moved-requires c =
+moved-requires g c =
     omega (
       arith,
       subst (λ (h : History). 0 < length h.earlier) (sym c.self.view_is) (c.has_earlier.ensures.yes c.if-not-has_earlier.false),
@@ -17,7 +17,7 @@ moved-requires c =
     )
 
 pub returns-clause-some : goal.returns-clause-some
-returns-clause-some c =
+returns-clause-some g c =
     let some : 0 < length c.self.inside.pasts.items =
     omega (
       arith,

@@ -12,12 +12,12 @@ use Rattle.scenes.proofs.Stepped.{step-can, step-posed}
 use Rattle.scenes.proofs.scene.Scene.pose.Goals as goal
 
 pub posed-requires : goal.posed-requires
-posed-requires c =
+posed-requires g c =
     let is : IsStepTo (scene_at c.self.inside.tree c.self.inside.metrics (items_of c.self.inside.items.items) c.self.inside.setting c.self.inside.engine) c.args.draft c.in_ok-step.step = subst (λ (h : History). IsStepTo h.scene c.args.draft c.in_ok-step.step) (sym c.self.view_is) c.in_ok-step.ensures in
     step-can c.self.inside.tree c.self.inside.metrics (items_of c.self.inside.items.items) c.self.inside.setting c.self.inside.engine c.self.invariant.0.scene c.show_layout.ensures.layout c.args.draft c.in_ok-step.step is
 
 pub returns : goal.returns
-returns c =
+returns g c =
     let is : IsStepTo (scene_at c.self.inside.tree c.self.inside.metrics (items_of c.self.inside.items.items) c.self.inside.setting c.self.inside.engine) c.args.draft c.in_ok-step.step = subst (λ (h : History). IsStepTo h.scene c.args.draft c.in_ok-step.step) (sym c.self.view_is) c.in_ok-step.ensures in
     rw (← c.self.view_is)
     (IfOk-weaker c.posed.result (λ (p : Problem). p ≡ posed_by c.self.inside.engine c.in_ok-step.step.request) (IsProblemOf (drafted (scene_at c.self.inside.tree c.self.inside.metrics (items_of c.self.inside.items.items) c.self.inside.setting c.self.inside.engine) c.args.draft))

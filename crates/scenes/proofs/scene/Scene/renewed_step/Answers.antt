@@ -9,11 +9,11 @@ use Rattle.scenes.proofs.Renewals.{near-numbers}
 use Rattle.scenes.proofs.scene.Scene.renewed_step.Goals as goal
 
 pub changes_of-requires : goal.changes_of-requires
-changes_of-requires c =
+changes_of-requires g c =
     let may : MayTake (scene_at c.self.inside.tree c.self.inside.metrics (items_of c.self.inside.items.items) c.self.inside.setting c.self.inside.engine) (draft.Renewed c.args.to) = subst (λ (h : History). MayTake h.scene (draft.Renewed c.args.to)) (sym c.self.view_is) c.requires in
     near-numbers (scene_at c.self.inside.tree c.self.inside.metrics (items_of c.self.inside.items.items) c.self.inside.setting c.self.inside.engine) c.args.to c.self.invariant.0.scene.each may
 
 pub returns : goal.returns
-returns c =
+returns g c =
     let may : MayTake (scene_at c.self.inside.tree c.self.inside.metrics (items_of c.self.inside.items.items) c.self.inside.setting c.self.inside.engine) (draft.Renewed c.args.to) = subst (λ (h : History). MayTake h.scene (draft.Renewed c.args.to)) (sym c.self.view_is) c.requires in
     rw (c.plain_step.ensures, ← c.self.view_is) (renewed-step c.self.inside.tree c.self.inside.metrics (items_of c.self.inside.items.items) c.self.inside.setting c.self.inside.engine c.self.invariant.0.scene c.show_layout.ensures.layout c.args.to c.in_ok-changes.changes c.in_ok-changes.ensures.changes c.in_ok-changes.ensures.kept may)

@@ -9,6 +9,6 @@ weaker None f p = f p
 weaker (Some x) f p = tt
 
 pub returns-clause-none : goal.returns-clause-none
-returns-clause-none c =
+returns-clause-none g c =
     rw (← c.self.view_is)
     (weaker c.size_of.result (none-held (items_of c.self.inside.items.items)) (rw c.as_slice.ensures at c.size_of.ensures.none))

@@ -19,19 +19,19 @@ use Rattle.scenes.proofs.Swept.{MaySweep, may-sweep, values-satisfy}
 use Rattle.scenes.proofs.scene.Scene.sweep.Goals as goal
 
 pub unreachable-requires : goal.unreachable-requires
-unreachable-requires c =
+unreachable-requires g c =
     let sized : has_size (items_of c.self.inside.items.items) ≡ true = rw (← c.self.view_is) at c.requires.sized in
     let none : size_of (items_of c.self.inside.items.items) ≡ None = rw c.as_slice.ensures at c.in_default.ensures.none in
     true≢false (sym sized ∙ none-held (items_of c.self.inside.items.items) none)
 
 pub returns-in_err-p-clause-stop : goal.returns-in_err-p-clause-stop
-returns-in_err-p-clause-stop c =
+returns-in_err-p-clause-stop g c =
     let exit = err_from_is_err_and c.from_residual.result c.from_residual.ensures.1 in
     rw (exit.1, exit.2, ← c.self.view_is)
     (c.in-Some.held.first_row, (size_in c.in-Some.held, rw c.as_slice.ensures at c.in-Some.ensures.some, refl), tt)
 
 pub sweep-requires : goal.sweep-requires
-sweep-requires c =
+sweep-requires g c =
     let is : c.in_ok-p.p ≡ record { rows = c.self.inside.engine.problem.rows; stays = stays_at c.self.inside.engine.values } = rw (← c.self.view_is) at c.in_ok-p.ensures in
     let near : IsFarSweep (items_of c.self.inside.items.items) c.args.from c.args.to → ⊥ = subst (λ (h : History). IsFarSweep h.scene.held c.args.from c.args.to → ⊥) (sym c.self.view_is) c.requires.near in
     let may : MaySweep c.in_ok-p.p c.in-Some.held.first_row c.args.from c.args.to =
@@ -46,7 +46,7 @@ sweep-requires c =
     }
 
 pub returns-clause-swept : goal.returns-clause-swept
-returns-clause-swept c =
+returns-clause-swept g c =
     let is : c.in_ok-p.p ≡ record { rows = c.self.inside.engine.problem.rows; stays = stays_at c.self.inside.engine.values } = rw (← c.self.view_is) at c.in_ok-p.ensures in
     rw (← c.self.view_is)
     (IfOk-weaker c.sweep.result (λ (s : Vec Stretch Global). IsSweep c.in_ok-p.p c.in-Some.held.first_row c.args.from c.args.to (stretches_of s.items))
@@ -55,7 +55,7 @@ returns-clause-swept c =
     c.sweep.ensures.sweep)
 
 pub returns-clause-stop : goal.returns-clause-stop
-returns-clause-stop c =
+returns-clause-stop g c =
     let is : c.in_ok-p.p ≡ record { rows = c.self.inside.engine.problem.rows; stays = stays_at c.self.inside.engine.values } = rw (← c.self.view_is) at c.in_ok-p.ensures in
     rw (← c.self.view_is)
     (IfErr-weaker c.sweep.result (λ (s : SweepStop). IsSweepStop c.in_ok-p.p c.in-Some.held.first_row c.args.from c.args.to c.args.budget s)

@@ -27,33 +27,33 @@ alike-less n most is few items solutions pasts same_items same_solutions =
     subst (λ (k : ℕ). AreAlike most (take k items) (take k solutions) (take k pasts)) (sym e) (alike most few items solutions pasts same_items same_solutions)
 
 pub returns-then-len-most-clause-alike : goal.returns-then-len-most-clause-alike
-returns-then-len-most-clause-alike c =
+returns-then-len-most-clause-alike g c =
     rw (c.forget_oldest.ensures.items, c.forget_oldest.ensures.solutions, c.forget_oldest.ensures.pasts)
     (alike-less (length c.push_front_reserved.new.self.items) c.args.most (omega (arith, c.requires.few, c.if-len-most.true, c.len.ensures, c.push_front_reserved.ensures.len)) c.requires.most c.args.items.now.before c.args.engine.now.earlier c.push_front_reserved.new.self.items (omega (arith, c.requires.items, c.push_front_reserved.ensures.len)) (omega (arith, c.requires.solutions, c.push_front_reserved.ensures.len)))
 
 pub returns-then-len-most-clause-items : goal.returns-then-len-most-clause-items
-returns-then-len-most-clause-items c =
+returns-then-len-most-clause-items g c =
     c.forget_oldest.ensures.items ∙ last-less (length c.push_front_reserved.new.self.items) c.args.most c.args.items.now.before (omega (arith, c.requires.few, c.if-len-most.true, c.len.ensures, c.push_front_reserved.ensures.len))
 
 pub returns-then-len-most-clause-solutions : goal.returns-then-len-most-clause-solutions
-returns-then-len-most-clause-solutions c =
+returns-then-len-most-clause-solutions g c =
     c.forget_oldest.ensures.solutions ∙ last-less (length c.push_front_reserved.new.self.items) c.args.most c.args.engine.now.earlier (omega (arith, c.requires.few, c.if-len-most.true, c.len.ensures, c.push_front_reserved.ensures.len))
 
 pub returns-then-len-most-clause-pasts : goal.returns-then-len-most-clause-pasts
-returns-then-len-most-clause-pasts c =
+returns-then-len-most-clause-pasts g c =
     c.forget_oldest.ensures.pasts
     ∙ last-less (length c.push_front_reserved.new.self.items) c.args.most c.push_front_reserved.new.self.items (omega (arith, c.requires.few, c.if-len-most.true, c.len.ensures, c.push_front_reserved.ensures.len))
     ∙ ap (take c.args.most) c.push_front_reserved.ensures.items
 
 pub returns-else-len-most-clause-items : goal.returns-else-len-most-clause-items
-returns-else-len-most-clause-items c =
+returns-else-len-most-clause-items g c =
     sym (take_all c.args.most c.args.items.now.before (omega (arith, c.requires.items, c.if-len-most.false, c.len.ensures, c.push_front_reserved.ensures.len)))
 
 pub returns-else-len-most-clause-solutions : goal.returns-else-len-most-clause-solutions
-returns-else-len-most-clause-solutions c =
+returns-else-len-most-clause-solutions g c =
     sym (take_all c.args.most c.args.engine.now.earlier (omega (arith, c.requires.solutions, c.if-len-most.false, c.len.ensures, c.push_front_reserved.ensures.len)))
 
 pub returns-else-len-most-clause-pasts : goal.returns-else-len-most-clause-pasts
-returns-else-len-most-clause-pasts c =
+returns-else-len-most-clause-pasts g c =
     c.push_front_reserved.ensures.items
     ∙ sym (take_all c.args.most (c.args.past ∷ c.args.pasts.now.items) (omega (arith, c.if-len-most.false, c.len.ensures, c.push_front_reserved.ensures.len)))

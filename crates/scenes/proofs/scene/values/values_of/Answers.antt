@@ -5,11 +5,11 @@ use Rattle.scenes.proofs.scene.values.values_of.Goals.{in-Some+in_ok-push_values
 use Rattle.scenes.proofs.scene.values.values_of.Goals as goal
 
 pub push_values-requires : goal.push_values-requires
-push_values-requires c =
+push_values-requires g c =
     rw c.view_attributes.ensures (four-held c.args.tree.now.views c.args.engine.now.problem.stays c.loop-place.place _ (sym c.in-Some.ensures) c.requires)
 
 pub loop-place-preserved : goal.loop-place-preserved
-loop-place-preserved c = record {
+loop-place-preserved g c = record {
   within = omega (arith, c.loop-place-test.true);
   is_end = c.loop-place.invariant.is_end;
   pairs = elim c.match-at.branch [
@@ -21,7 +21,7 @@ loop-place-preserved c = record {
 }
 
 pub of-requires : goal.of-requires
-of-requires c =
+of-requires g c =
     let are : c.deref.result.now ≡ _ =
     c.deref.ensures.value ∙ read-all c.args.engine.now.values c.args.tree.now.views c.loop-place.place c.loop-place.pairs.items (omega (arith, c.loop-place-test.false, c.loop-place.invariant.is_end)) c.loop-place.invariant.pairs in
     subst AreRising (sym are) (read-rises c.args.engine.now.values c.args.tree.now.views c.len-place-end.ensures.tree.rising)

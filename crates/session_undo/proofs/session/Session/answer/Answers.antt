@@ -1,7 +1,7 @@
 use Rattle.session_undo.proofs.session.Session.answer.Goals as goal
 
 pub returns-in-Sweep-clause-accepted : goal.returns-in-Sweep-clause-accepted
-returns-in-Sweep-clause-accepted c = rw c.in-Sweep.is c.sweep.ensures.accepted
+returns-in-Sweep-clause-accepted g c = rw c.in-Sweep.is c.sweep.ensures.accepted
 
 pub returns-in-Sweep-clause-refused : goal.returns-in-Sweep-clause-refused
-returns-in-Sweep-clause-refused c = rw c.in-Sweep.is c.sweep.ensures.refused
+returns-in-Sweep-clause-refused g c = rw c.in-Sweep.is c.sweep.ensures.refused

@@ -7,7 +7,7 @@ use Rattle.session_undo.proofs.session.Session.diagnose.Goals as goal
 use Rattle.session_undo.proofs.session.Session.diagnose.Goals.{in-Ok, in-Err}
 
 pub returns-clause-accepted : goal.returns-clause-accepted
-returns-clause-accepted c =
+returns-clause-accepted g c =
     let old = (session_at c.self.inside.scene c.self.inside.budget c.self.inside.limits c.self.inside.version) in
     elim c.match-diagnose.branch [
       | in-Ok w ↦ rw (w.result-is, ← c.self.view_is)
@@ -16,7 +16,7 @@ returns-clause-accepted c =
     ]
 
 pub returns-clause-refused : goal.returns-clause-refused
-returns-clause-refused c =
+returns-clause-refused g c =
     let old = (session_at c.self.inside.scene c.self.inside.budget c.self.inside.limits c.self.inside.version) in
     elim c.match-diagnose.branch [
       | in-Ok w ↦ rw w.result-is tt
@@ -25,4 +25,4 @@ returns-clause-refused c =
     ]
 
 pub invariant_of-self : goal.invariant_of-self
-invariant_of-self c = (c.self.invariant.0, subst (λ (h : History). AreLimitsOf h (limits_of c.self.inside.limits)) (sym c.diagnose.ensures.same) c.self.invariant.1)
+invariant_of-self g c = (c.self.invariant.0, subst (λ (h : History). AreLimitsOf h (limits_of c.self.inside.limits)) (sym c.diagnose.ensures.same) c.self.invariant.1)

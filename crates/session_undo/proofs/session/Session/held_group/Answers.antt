@@ -7,7 +7,7 @@ use Rattle.session_undo.proofs.Commands.LeavingSteps.{removed-unknown}
 use Rattle.session_undo.proofs.session.Session.held_group.Goals as goal
 
 pub returns-then-not-has_group-clause-refused : goal.returns-then-not-has_group-clause-refused
-returns-then-not-has_group-clause-refused c =
+returns-then-not-has_group-clause-refused g c =
     let old = (session_at c.self.inside.scene c.self.inside.budget c.self.inside.limits c.self.inside.version) in
     let named : c.in_ok-name.name ≡ c.args.group.now = c.in_ok-name.ensures ∙ c.as_bytes.ensures.value in
     let none : list_any (is_in_group c.args.group.now) old.scene.held ≡ false = search rules in

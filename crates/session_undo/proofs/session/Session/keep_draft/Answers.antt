@@ -2,4 +2,4 @@ use Rattle.session_undo.proofs.Commands.Drafts.{keep-draft}
 use Rattle.session_undo.proofs.session.Session.keep_draft.Goals as goal
 
 pub returns-clause-made : goal.returns-clause-made
-returns-clause-made c = keep-draft c.args.self.now c.args.name.now c.in_ok-view.view c.in_ok-view.ensures.named
+returns-clause-made g c = keep-draft c.args.self.now c.args.name.now c.in_ok-view.view c.in_ok-view.ensures.named

@@ -17,21 +17,21 @@ use Rattle.session_undo.proofs.Commands.LineStops.{IsLineOf, MayStopLine, constr
 use Rattle.session_undo.proofs.session.Session.new_constraint.Goals as goal
 
 pub returns-in-Ok-clause-made : goal.returns-in-Ok-clause-made
-returns-in-Ok-clause-made c =
+returns-in-Ok-clause-made g c =
     let is : IsLineOf c.args.self.now (linear_view c.args.line.now) c.in-Ok.compiled =
     subst (λ (s : State). IsLineOf s (linear_view c.args.line.now) c.in-Ok.compiled) c.self.view_is (rw (c.tree-tree.ensures, c.metrics-metrics.ensures, c.next_row-id.ensures.value, c.direction-direction.ensures) at c.in-Ok.ensures.compiled) in
     IfOk-weaker c.new_line.result (IsNewLine c.args.self.now c.args.group.now c.in-Ok.compiled)
     (λ new. (compiled : CompiledLine) × IsLineOf c.args.self.now (linear_view c.args.line.now) compiled × IsNewLine c.args.self.now c.args.group.now compiled new) (λ new made. (c.in-Ok.compiled, is, made)) c.new_line.ensures.made
 
 pub returns-in-Ok-clause-refused : goal.returns-in-Ok-clause-refused
-returns-in-Ok-clause-refused c =
+returns-in-Ok-clause-refused g c =
     let is : IsLineOf c.args.self.now (linear_view c.args.line.now) c.in-Ok.compiled =
     subst (λ (s : State). IsLineOf s (linear_view c.args.line.now) c.in-Ok.compiled) c.self.view_is (rw (c.tree-tree.ensures, c.metrics-metrics.ensures, c.next_row-id.ensures.value, c.direction-direction.ensures) at c.in-Ok.ensures.compiled) in
     err-map (λ (reply : Reply). AddStop c.args.self.now c.args.group.now c.in-Ok.compiled reply c.args.self.now) (λ (reply : Reply). TriedConstraint c.args.self.now c.args.group.now (linear_view c.args.line.now) NoEnd reply c.args.self.now) c.new_line.result
     (λ reply step. constraint-full c.args.self.now c.args.group.now (linear_view c.args.line.now) NoEnd c.in-Ok.compiled reply c.args.self.now is step) c.new_line.ensures.refused
 
 pub new_line-requires : goal.new_line-requires
-new_line-requires c =
+new_line-requires g c =
     let is : IsLineOf c.args.self.now (linear_view c.args.line.now) c.in-Ok.compiled =
     subst (λ (s : State). IsLineOf s (linear_view c.args.line.now) c.in-Ok.compiled) c.self.view_is (rw (c.tree-tree.ensures, c.metrics-metrics.ensures, c.next_row-id.ensures.value, c.direction-direction.ensures) at c.in-Ok.ensures.compiled) in
     let above : All HasDenominator (terms_of (line_in c.args.self.now.scene.direction (linear_view c.args.line.now))) =
@@ -42,7 +42,7 @@ new_line-requires c =
     }
 
 pub returns-in-Err-clause-refused : goal.returns-in-Err-clause-refused
-returns-in-Err-clause-refused c =
+returns-in-Err-clause-refused g c =
     let may : MayStopLine c.args.self.now (linear_view c.args.line.now) c.in-Err.stop =
     subst (λ (s : State). MayStopLine s (linear_view c.args.line.now) c.in-Err.stop) c.self.view_is (rw (c.tree-tree.ensures, c.metrics-metrics.ensures, c.next_row-id.ensures.value, c.direction-direction.ensures) at c.in-Err.ensures.stop) in
     refuses (λ (reply : Reply). StopStep c.args.self.now c.args.group.now 1 c.in-Err.stop reply c.args.self.now) (λ (reply : Reply). TriedConstraint c.args.self.now c.args.group.now (linear_view c.args.line.now) NoEnd reply c.args.self.now) c.line_refusal.result

@@ -17,21 +17,21 @@ use Rattle.session_undo.proofs.Commands.LineStops.{IsTextOf, MayStopText, format
 use Rattle.session_undo.proofs.session.Session.new_format.Goals as goal
 
 pub returns-in-Ok-clause-made : goal.returns-in-Ok-clause-made
-returns-in-Ok-clause-made c =
+returns-in-Ok-clause-made g c =
     let is : IsTextOf c.args.self.now c.args.align (meaning c.args.format.now) c.in-Ok.compiled =
     subst (λ (s : State). IsTextOf s c.args.align (meaning c.args.format.now) c.in-Ok.compiled) c.self.view_is (rw (c.tree-tree.ensures, c.metrics-metrics.ensures, c.next_row.ensures.value, c.direction-direction.ensures) at c.in-Ok.ensures.compiled) in
     IfOk-weaker c.new_line.result (IsNewLine c.args.self.now c.args.group.now c.in-Ok.compiled)
     (λ new. (compiled : CompiledLine) × IsTextOf c.args.self.now c.args.align (meaning c.args.format.now) compiled × IsNewLine c.args.self.now c.args.group.now compiled new) (λ new made. (c.in-Ok.compiled, is, made)) c.new_line.ensures.made
 
 pub returns-in-Ok-clause-refused : goal.returns-in-Ok-clause-refused
-returns-in-Ok-clause-refused c =
+returns-in-Ok-clause-refused g c =
     let is : IsTextOf c.args.self.now c.args.align (meaning c.args.format.now) c.in-Ok.compiled =
     subst (λ (s : State). IsTextOf s c.args.align (meaning c.args.format.now) c.in-Ok.compiled) c.self.view_is (rw (c.tree-tree.ensures, c.metrics-metrics.ensures, c.next_row.ensures.value, c.direction-direction.ensures) at c.in-Ok.ensures.compiled) in
     err-map (λ (reply : Reply). AddStop c.args.self.now c.args.group.now c.in-Ok.compiled reply c.args.self.now) (λ (reply : Reply). TriedFormat c.args.self.now c.args.group.now c.args.align (meaning c.args.format.now) NoEnd reply c.args.self.now) c.new_line.result
     (λ reply step. format-full c.args.self.now c.args.group.now c.args.align (meaning c.args.format.now) NoEnd c.in-Ok.compiled reply c.args.self.now is step) c.new_line.ensures.refused
 
 pub new_line-requires : goal.new_line-requires
-new_line-requires c =
+new_line-requires g c =
     let is : IsTextOf c.args.self.now c.args.align (meaning c.args.format.now) c.in-Ok.compiled =
     subst (λ (s : State). IsTextOf s c.args.align (meaning c.args.format.now) c.in-Ok.compiled) c.self.view_is (rw (c.tree-tree.ensures, c.metrics-metrics.ensures, c.next_row.ensures.value, c.direction-direction.ensures) at c.in-Ok.ensures.compiled) in
     let whole : IsTree c.args.self.now.scene.tree = subst (λ (s : State). IsTree s.scene.tree) c.self.view_is (rw c.tree-tree.ensures at c.len-count.ensures.tree) in
@@ -44,7 +44,7 @@ new_line-requires c =
     }
 
 pub returns-in_ok-count-in-Err-clause-refused : goal.returns-in_ok-count-in-Err-clause-refused
-returns-in_ok-count-in-Err-clause-refused c =
+returns-in_ok-count-in-Err-clause-refused g c =
     let may : MayStopText c.args.self.now c.args.align (meaning c.args.format.now) c.in-Err.stop =
     subst (λ (s : State). MayStopText s c.args.align (meaning c.args.format.now) c.in-Err.stop) c.self.view_is (rw (c.tree-tree.ensures, c.metrics-metrics.ensures, c.next_row.ensures.value, c.direction-direction.ensures) at c.in-Err.ensures.stop) in
     let count : c.in_ok-count-in-Err.count ≡ text_count c.args.self.now c.args.align (meaning c.args.format.now) =

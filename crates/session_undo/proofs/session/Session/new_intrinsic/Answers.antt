@@ -13,7 +13,7 @@ use Rattle.session_undo.proofs.Commands.SuggestionSteps.{view-found}
 use Rattle.session_undo.proofs.session.Session.new_intrinsic.Goals as goal
 
 pub returns-clause-made : goal.returns-clause-made
-returns-clause-made c =
+returns-clause-made g c =
     let old = (session_at c.self.inside.scene c.self.inside.budget c.self.inside.limits c.self.inside.version) in
     let f = view-found (view_named old.scene.tree.views c.args.name.now) c.in-Some.view.0 (rw c.tree.ensures at c.in-Some.ensures) in
     rw (← c.self.view_is)
@@ -21,7 +21,7 @@ returns-clause-made c =
     (λ new to. to c.args.name.now f.0 f.1 f.2) (rw (← c.self.view_is) at c.intrinsic_for.ensures.made))
 
 pub returns-clause-refused : goal.returns-clause-refused
-returns-clause-refused c =
+returns-clause-refused g c =
     let old = (session_at c.self.inside.scene c.self.inside.budget c.self.inside.limits c.self.inside.version) in
     let f = view-found (view_named old.scene.tree.views c.args.name.now) c.in-Some.view.0 (rw c.tree.ensures at c.in-Some.ensures) in
     rw (← c.self.view_is)

@@ -8,7 +8,7 @@ use Rattle.session_undo.proofs.Commands.SuggestionSteps.{view-found}
 use Rattle.session_undo.proofs.session.Session.sized.Goals as goal
 
 pub returns-then-is_none-clause-refused : goal.returns-then-is_none-clause-refused
-returns-then-is_none-clause-refused c =
+returns-then-is_none-clause-refused g c =
     let old = (session_at c.self.inside.scene c.self.inside.budget c.self.inside.limits c.self.inside.version) in
     let f = view-found (view_named old.scene.tree.views c.args.name.now) c.in-Some.view.0 (rw c.tree.ensures at c.in-Some.ensures) in
     let none : intrinsic_of c.in-Some.view.0 old.scene.held ≡ None = search rules in

@@ -17,7 +17,7 @@ release-unknown : (old : State) (name : List ℕ) (attr : AttrWord) (view : Live
 release-unknown old name attr view found none = inr ((λ h. none-some view (sym h ∙ found)), (view, found, inl (none, refl, refl)))
 
 pub returns-then-is_none-clause-refused : goal.returns-then-is_none-clause-refused
-returns-then-is_none-clause-refused c =
+returns-then-is_none-clause-refused g c =
     let old = (session_at c.self.inside.scene c.self.inside.budget c.self.inside.limits c.self.inside.version) in
     let f = view-found (view_named old.scene.tree.views c.args.name.now) c.in-Some.view.0 (rw c.tree.ensures at c.in-Some.ensures) in
     let none : suggestion_of c.in-Some.view.0 c.args.word old.scene.held ≡ None = search rules in

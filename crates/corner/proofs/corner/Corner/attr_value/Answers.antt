@@ -1,7 +1,0 @@
-use Rattle.std.proofs.Common.{subst}
-use Rattle.problem_core.specs.Corners.{attr_column}
-use Rattle.corner.specs.Views.{CornerView, HasValueAt}
-use Rattle.corner.proofs.corner.Corner.attr_value.Goals as goal
-
-pub returns : goal.returns
-returns c = subst (λ (v : CornerView). HasValueAt v.problem v.marks (attr_column c.args.attr) c.attr_value.result) c.self.view_is c.attr_value.ensures

@@ -1,7 +1,0 @@
-use Rattle.std.proofs.Common.{subst}
-use Rattle.problem_core.specs.Corners.{place}
-use Rattle.corner.specs.Views.{CornerView, HasValueAt}
-use Rattle.corner.proofs.corner.Corner.value.Goals as goal
-
-pub returns : goal.returns
-returns c = subst (λ (v : CornerView). HasValueAt v.problem v.marks (place c.args.mark) c.mark_value.result) c.self.view_is c.mark_value.ensures

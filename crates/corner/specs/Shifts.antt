@@ -1,2 +1,0 @@
--- Words for a changed constant, passed on from below.
-pub mod Shifting

@@ -1,0 +1,7 @@
+use Rattle.std.proofs.Common.{IfNone, subst}
+use Rattle.corner_view.specs.Seen.{CornerView}
+use Rattle.corner_view.specs.Lows.{AreNotLow}
+use Rattle.corner_view.proofs.corner.Corner.low_mark.Goals as goal
+
+pub returns-clause-none : goal.returns-clause-none
+returns-clause-none g c = subst (λ (v : CornerView). IfNone c.low_mark.result (AreNotLow v.problem v.marks c.args.row)) c.self.view_is c.low_mark.ensures.none

@@ -1,0 +1,9 @@
+pub mod Seen
+pub mod Fronts
+pub mod Moves
+pub mod Entries
+pub mod Growing
+pub mod Lows
+pub mod Stops
+pub mod AddStops
+pub mod Changes
