@@ -15,8 +15,8 @@ use Rattle.corner_laws.specs.Runs.{IsDualSwap, Writes, Writing, other_mark, othe
 use Rattle.corner_laws.proofs.MarkWritings.Directions.{each-of, ray_number}
 use Rattle.corner_laws.proofs.MarkWritings.LowestForms.{column_has_writing}
 use Rattle.corner_laws.proofs.RunSteps.DualRuns.{other_mark_grows, up-some}
-use Rattle.corner_ends.specs.Views.{CornerView, IsKeptCorner, IsScaleOf, MovesWith}
-use Rattle.corner_writings.specs.Entries.{AreBothOutside, AreEntries, HasEntry}
+use Rattle.corner_view.specs.Seen.{CornerView, IsKeptCorner, IsScaleOf, MovesWith}
+use Rattle.corner_view.specs.Entries.{AreBothOutside, AreEntries, HasEntry}
 use Rattle.corner_ends.proofs.Fronts.{reduced_at_all}
 use Rattle.corner_ends.proofs.ReadNumbers.{scale_is}
 use Rattle.corner_ends.proofs.Marks.{got_holds, in_mark, one_mark, same_got}
@@ -28,7 +28,7 @@ use Rattle.dual_run.proofs.Lows.{same_or_other}
 use Rattle.dual_run.proofs.Orders.{contains_got}
 use Rattle.frac_core.proofs.Numbers.{up-not-zero as up-not}
 use Rattle.frac_core.proofs.Orders.{three as order}
-use Rattle.corner_table.proofs.Readings.ReadFacts.{named_in as named_mark, mark_named}
+use Rattle.corner_view.proofs.Facts.{mark_named, named_in as named_mark}
 
 -- ---- one writing
 

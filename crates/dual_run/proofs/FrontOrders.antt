@@ -16,8 +16,9 @@ use Rattle.problem_core.specs.Levels.{IsLevelAt}
 use Rattle.problem_core.proofs.RowNames.{stay-same}
 use Rattle.frac_core.proofs.Orders.{three as order}
 use Rattle.corner_laws.proofs.RunSteps.ColumnSigns.{negative_by_reduced, pick}
-use Rattle.corner_writings.specs.declared.levels.Front.{Front}
-use Rattle.corner_ends.specs.Views.{HasNoFront, IsFrontOf, IsKeptCorner, IsMarkOf, IsStronger}
+use Rattle.corner_view.specs.declared.types.Front.{Front}
+use Rattle.corner_view.specs.Fronts.{HasNoFront, IsFrontOf}
+use Rattle.corner_view.specs.Seen.{IsKeptCorner, IsMarkOf, IsStronger}
 use Rattle.corner_ends.specs.Columns.{Reduced}
 use Rattle.corner_ends.proofs.Fronts.{front_below, level_named, reduced_there, some_line}
 use Rattle.corner_ends.proofs.Signs.{not_both_signs}
@@ -25,9 +26,8 @@ use Rattle.dual_run.specs.declared.ratios.Choice.{Choice}
 use Rattle.dual_run.specs.Entering.{IsNoGreater, IsPositive}
 use Rattle.dual_run.proofs.Lesser.{lex_at, lex_same, lex_times}
 use Rattle.dual_run.proofs.Orders.{both-zero, cost_there}
-use Rattle.corner_writings.proofs.Readings.LowLines.{up_or_low}
+use Rattle.corner_view.proofs.Facts.{past-rows, tail-level, up_or_low}
 use Rattle.corner_lines.proofs.LevelRows.StayRows.{level_one, stay_stands_alone}
-use Rattle.corner_writings.proofs.LevelFacts.LevelUseFacts.{past-rows, tail-level}
 
 not-none : (z : ℤ) → pos 0 ≤ℤ z → z ≢ pos 0 → pos 0 <ℤ z
 not-none (negsuc n) up some = absurd (omega (arith, ints, up))

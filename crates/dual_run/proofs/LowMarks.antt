@@ -4,9 +4,9 @@ use Rattle.std.specs.declared.option.Option.{Option}
 use Rattle.problem_core.specs.declared.parts.Mark.{Mark}
 use Rattle.problem_core.specs.declared.parts.RowName.{RowName}
 use Rattle.problem_core.specs.Layout.{Problem}
-use Rattle.corner_ends.specs.Lows.{AreNotLow, IsLowMark}
-use Rattle.corner_ends.specs.Views.{IsKeptCorner, IsNamed}
-use Rattle.corner_table.proofs.Readings.ReadFacts.{named_in}
+use Rattle.corner_view.specs.Lows.{AreNotLow, IsLowMark}
+use Rattle.corner_view.specs.Seen.{IsKeptCorner, IsNamed}
+use Rattle.corner_view.proofs.Facts.{named_in}
 use Rattle.dual_run.specs.Leaving.{HasNoLow, IsLow}
 use Rattle.dual_run.proofs.Lows.{low_value, no_low_value}
 

@@ -1,8 +1,11 @@
 -- Marks whose values are negative.
-use Rattle.std.proofs.Common.{◌≡◌, ◌∙◌, ◌⊎◌, inl, inr, zero, suc, ◌<◌, ◌++◌, List, [], ◌∷◌, ℤ, pos, negsuc, ◌*ℤ◌, ◌≤ℤ◌, ◌<ℤ◌, refl, sym, subst, arith, All, Contains}
-use Rattle.std.specs.List.{AllByRecursion as Each}
+use Rattle.std.proofs.Common.{◌≡◌, ◌∙◌, ◌⊎◌, inl, inr, ℕ, zero, suc, ◌+◌, ◌-◌, ◌<◌, List, [], ◌∷◌, length, slice_get, slice_index_or, ℤ, pos, negsuc, ◌*ℤ◌, ◌≤ℤ◌, ◌<ℤ◌, refl, sym, subst, arith, Contains}
+use Rattle.std.specs.List.{swap_remove}
+use Rattle.std.specs.List.Sorted.{IsPermutation}
 use Rattle.std.proofs.lemmas.Bool.{cases_Bool}
 use Rattle.std.proofs.lemmas.List.Elements.{recursion_from_All, All-from_recursion}
+use Rattle.std.proofs.lemmas.List.Sorted.{All-permutation, Contains-permutation, IsPermutation-swap_remove}
+use Rattle.std.proofs.lemmas.Option.{slice_get_read}
 use borrow.Author.Differences.{ints}
 use lib.IntN.{*ℤ_comm}
 use Rattle.frac_core.specs.Fraction.{Fraction}
@@ -21,14 +24,14 @@ use Rattle.corner_laws.proofs.RunSteps.DualRuns.{other_mark_grows}
 use Rattle.corner_laws.proofs.MarkWritings.LowestForms.{column_has_writing, marks_are_fixed}
 use Rattle.corner_laws.proofs.WrittenValues.{contains_each}
 use Rattle.corner_laws.proofs.ZeroColumns.{not-in}
-use Rattle.corner_ends.specs.Views.{HasValueAt, IsKeptCorner, IsMarkOf, IsNamed}
-use Rattle.corner_ends.proofs.Marks.{in_mark}
+use Rattle.corner_view.specs.Seen.{HasValueAt, IsKeptCorner, IsMarkOf, IsNamed}
+use Rattle.corner_ends.proofs.Marks.{in_mark, same_got}
 use Rattle.dual_run.specs.Leaving.{AreLowLines, HasNoLow, IsLow, MayLeave}
-use Rattle.corner_writings.proofs.Readings.LowLines.{up_or_low}
+use Rattle.dual_run.specs.FoundLows.{IsTwice}
+use Rattle.corner_view.proofs.Facts.{mark_named, named_in as named_mark, up_or_low}
 use Rattle.corner_lines.proofs.ColumnsBelow.{low_from}
 use Rattle.frac_core.proofs.Numbers.{one-times as times-one, up-times}
 use Rattle.frac_core.proofs.Products.{above_zero as den-up}
-use Rattle.corner_table.proofs.Readings.ReadFacts.{mark_named, named_in as named_mark}
 use Rattle.problem_core.proofs.Marks.{in-list as in_list}
 
 -- ---- signs
@@ -72,18 +75,9 @@ no_low_value p at m f kept mark den (x, here, e) up value =
     let low : f.num <ℤ pos 0 = same_sign (x.num (place m)) f.num (pos f.den) (x.num one_column) (den-up f.den den) x.positive e down in
     omega (arith, ints, up, low)
 
-each-first : (P : RowName → Type 0) (xs ys : List RowName) → Each P (xs ++ ys) → Each P xs
-each-first P [] ys h = tt
-each-first P (x ∷ xs) ys h = (h.0, each-first P xs ys h.1)
-
-last-or : (xs : List RowName) (x y : RowName) → Contains (xs ++ x ∷ []) y → Contains xs y ⊎ (x ≡ y)
-last-or [] x y (zero, within, is) = inr is
-last-or [] x y (suc k, within, is) = absurd (omega (arith, within))
-last-or (z ∷ xs) x y (zero, within, is) = inl (0, omega arith, is)
-last-or (z ∷ xs) x y (suc k, within, is) = elim (last-or xs x y (k, omega (arith, within), is)) [
-  | inl h ↦ inl (suc h.0, (let less = h.1 in omega (arith, less)), h.2)
-  | inr e ↦ inr e
-]
+first-or : (xs : List RowName) (x y : RowName) → Contains (x ∷ xs) y → Contains xs y ⊎ (x ≡ y)
+first-or xs x y (zero, within, is) = inr is
+first-or xs x y (suc k, within, is) = inl (k, omega (arith, within), is)
 
 pub same_or_other : (a b : Side) → (b ≡ a) ⊎ (b ≡ other_side a)
 same_or_other Under Under = inl refl
@@ -121,14 +115,36 @@ no_low_left p at names kept none lows = (
     nothing : (name : RowName) → Contains [] name → ⊥
     nothing name (k, within, is) = omega (arith, within)
 
--- the last one has no negative value
-pub shorter : (p : Problem) (at : List Mark) (names rest : List RowName) (name : RowName) → names ≡ rest ++ name ∷ [] → HasNoLow p at name → AreLowLines p at names → AreLowLines p at rest
-shorter p at names rest name e none lows = record {
-  named = All-from_recursion (IsNamed p) rest (each-first (IsNamed p) rest (name ∷ []) (recursion_from_All (IsNamed p) (rest ++ name ∷ []) (subst (All (IsNamed p)) e lows.named)));
-  low = λ m low. elim (last-or rest name m.row (subst (λ (xs : List RowName). Contains xs m.row) e (lows.low m low))) [
+-- the first one of them in some order is listed twice or has no negative value
+taken : (p : Problem) (at : List Mark) (names rest : List RowName) (name : RowName) → IsPermutation names (name ∷ rest) → Contains rest name ⊎ HasNoLow p at name → AreLowLines p at names → AreLowLines p at rest
+taken p at names rest name moved why lows = record {
+  named = All-from_recursion (IsNamed p) rest (recursion_from_All (IsNamed p) (name ∷ rest) (All-permutation (IsNamed p) names (name ∷ rest) moved lows.named)).1;
+  low = λ m low. elim (first-or rest name m.row (Contains-permutation names (name ∷ rest) m.row moved (lows.low m low))) [
     | inl in-rest ↦ in-rest
-    | inr here ↦ absurd (none m.side (subst (λ (n : RowName). HasNegativeValue p at (record { row = n; side = m.side })) (sym here) low.value))
+    | inr here ↦ elim why [
+      | inl twice ↦ subst (Contains rest) here twice
+      | inr none ↦ absurd (none m.side (subst (λ (n : RowName). HasNegativeValue p at (record { row = n; side = m.side })) (sym here) low.value))
+    ]
   ];
+}
+
+-- the one at this place is taken off
+pub without : (p : Problem) (at : List Mark) (names rest : List RowName) (i : ℕ) (name gone : RowName) → i < length names → name ≡ slice_index_or names i name → gone ≡ slice_index_or names i gone → rest ≡ swap_remove names i gone → Contains rest name ⊎ HasNoLow p at name → AreLowLines p at names → AreLowLines p at rest
+without p at names rest i name gone within is was e why =
+    let same : name ≡ gone = same_got (slice_get names i) name gone (slice_get_read names (length names) i name refl within is) (slice_get_read names (length names) i gone refl within was) in
+    taken p at names rest gone
+    (subst (λ (xs : List RowName). IsPermutation names (gone ∷ xs)) (sym e) (IsPermutation-swap_remove names i gone within was))
+    (subst (λ (n : RowName). Contains rest n ⊎ HasNoLow p at n) same why)
+
+-- the one before it stays
+pub twin : (names rest : List RowName) (i : ℕ) (name : RowName) → IsTwice names i → i < length names → name ≡ slice_index_or names i name → length rest + 1 ≡ length names → ((k : ℕ) (d : RowName) → (k ≡ i → ⊥) → k + 1 < length names → slice_index_or rest k d ≡ slice_index_or names k d) → Contains rest name
+twin names rest i name (up, same) within is shorter stay =
+    (i - 1, omega (arith, up, within, shorter), stay (i - 1) name (λ e. omega (arith, e, up)) (omega (arith, up, within)) ∙ same name ∙ sym is)
+
+pub sorted : (p : Problem) (at : List Mark) (names moved : List RowName) → IsPermutation names moved → AreLowLines p at names → AreLowLines p at moved
+sorted p at names moved h lows = record {
+  named = All-permutation (IsNamed p) names moved h lows.named;
+  low = λ m low. Contains-permutation names moved m.row h (lows.low m low);
 }
 
 pub may_leave : (p : Problem) (at : List Mark) (m : Mark) → IsKeptCorner p at → (CostsAbove p at 0 → ⊥) → IsLow p at m → MayLeave p at m

@@ -22,18 +22,17 @@ use Rattle.corner_laws.proofs.RunSteps.RunPaths.{contains_in}
 use Rattle.corner_laws.proofs.WrittenValues.{value_there}
 use Rattle.corner_lines.specs.Shifts.{IsShift, with_constant}
 use Rattle.corner_lines.proofs.ProblemChanges.Shifted.{raised, raised-other, same-marks, shift-small, shift_direction, unshift-solves}
-use Rattle.corner_writings.proofs.Readings.MoverFacts.{moves_where}
-use Rattle.corner_ends.specs.Views.{IsKeptCorner, IsNamed, IsOutside, MovesWith}
-use Rattle.corner_writings.specs.Lows.{IsListedIfLow, ListsLow}
+use Rattle.corner_view.proofs.Facts.{mark_named, moves_where, named_in as named_mark}
+use Rattle.corner_view.specs.Seen.{IsKeptCorner, IsNamed, IsOutside, MovesWith}
+use Rattle.corner_view.specs.Lows.{IsListedIfLow, ListsLow}
 use Rattle.corner_ends.proofs.Marks.{in_mark, one_mark}
 use Rattle.dual_run.specs.Leaving.{AreLowLines, IsLow, ListsSwapped}
 use Rattle.dual_run.proofs.Lows.{no_low_value, same_or_other, same_sign}
 use Rattle.dual_run.proofs.Turns.{opposite_numbers}
 use Rattle.frac_core.proofs.Numbers.{low-times}
 use Rattle.problem_core.proofs.Marks.{kept-in as in_exchanged, later-in}
-use Rattle.corner_table.proofs.Seen.ShiftedLines.{shift_named as named_shifted}
+use Rattle.corner_view.proofs.Seen.ShiftedLines.{shift_named as named_shifted}
 use Rattle.frac_core.proofs.Products.{above_zero as den-up}
-use Rattle.corner_table.proofs.Readings.ReadFacts.{named_in as named_mark, mark_named}
 
 -- ---- one mark
 

@@ -9,7 +9,7 @@ use Rattle.problem_core.specs.Layout.{Problem, lines}
 use Rattle.problem_core.specs.Corners.{place}
 use Rattle.problem_core.specs.Kept.{IsWhole}
 use Rattle.problem_core.specs.Levels.{IsLevelAt}
-use Rattle.corner_ends.specs.Views.{IsInUse, IsKeptCorner, IsMarkOf, IsReducedAt, IsStronger}
+use Rattle.corner_view.specs.Seen.{IsInUse, IsKeptCorner, IsMarkOf, IsReducedAt, IsStronger}
 use Rattle.corner_ends.specs.Columns.{Reduced}
 use Rattle.corner_ends.proofs.Fronts.{level_named, reduced_there, some_line, used_line}
 use Rattle.corner_ends.proofs.Marks.{got_holds, same_got}

@@ -7,7 +7,7 @@ use Rattle.problem_core.specs.Changes.Paths.{ArePathSwaps, last_marks}
 use Rattle.corner_laws.specs.Runs.{AreDualSwaps, IsDualSwap}
 use Rattle.corner_laws.proofs.RunSteps.DualRuns.{dual_order_is_free, dual_run_grows}
 use Rattle.corner_ends.specs.Trails.{HasRun}
-use Rattle.corner_ends.specs.Views.{AreCandidates}
+use Rattle.corner_view.specs.Seen.{AreCandidates}
 use Rattle.corner_ends.proofs.Signs.{not_both_signs}
 use Rattle.corner_ends.proofs.MarkOrders.{same_self}
 use Rattle.corner_ends.proofs.Trails.{run_lawful, run_more, run_sound}

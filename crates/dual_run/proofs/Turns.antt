@@ -27,9 +27,9 @@ use Rattle.corner_laws.proofs.Swaps.DualChoice.{unused-IsLevelSum}
 use Rattle.corner_laws.proofs.LevelCosts.Equal.{numbers_are_equal}
 use Rattle.corner_laws.proofs.MarkWritings.LowestForms.{column_has_writing}
 use Rattle.corner_lines.proofs.Lines.LineWritings.{all-small}
-use Rattle.corner_ends.specs.Views.{CornerView, IsKeptCorner, IsMarkOf, IsNamed, IsOutside, IsReducedAt, MovesWith}
-use Rattle.corner_writings.specs.Entries.{AreBothOutside, AreEntries, HasEntry}
-use Rattle.corner_writings.specs.Growing.{AreGrowersDear, GrowsWith}
+use Rattle.corner_view.specs.Seen.{CornerView, IsKeptCorner, IsMarkOf, IsNamed, IsOutside, IsReducedAt, MovesWith}
+use Rattle.corner_view.specs.Entries.{AreBothOutside, AreEntries, HasEntry}
+use Rattle.corner_view.specs.Growing.{AreGrowersDear, GrowsWith}
 use Rattle.corner_ends.specs.Columns.{Reduced}
 use Rattle.corner_ends.proofs.Fronts.{any_there, reduced_there, some_line}
 use Rattle.corner_ends.proofs.Marks.{got_holds, in_mark, one_mark}
@@ -43,7 +43,7 @@ use Rattle.dual_run.proofs.Lesser.{lex_at}
 use Rattle.dual_run.proofs.Lows.{same_or_other}
 use Rattle.frac_core.proofs.Numbers.{none-below as nothing-before}
 use Rattle.frac_core.proofs.Bools.{count-other as cond_other}
-use Rattle.corner_table.proofs.Readings.ReadFacts.{named_in as named_mark, mark_named}
+use Rattle.corner_view.proofs.Facts.{mark_named, named_in as named_mark}
 
 -- ---- the two marks of a line
 

@@ -9,8 +9,9 @@ use Rattle.problem_core.specs.Layout.{Problem, coefficient}
 use Rattle.problem_core.specs.Certificates.{IsLexNonnegative}
 use Rattle.problem_core.specs.Corners.{place}
 use Rattle.corner_laws.specs.Runs.{Writes, Writing}
-use Rattle.corner_ends.specs.Views.{HasNoFront, IsFrontOf, IsInUse, IsMarkOf, IsOutside, IsStronger}
-use Rattle.corner_writings.specs.Entries.{HasEntry}
+use Rattle.corner_view.specs.Fronts.{HasNoFront, IsFrontOf}
+use Rattle.corner_view.specs.Seen.{IsInUse, IsMarkOf, IsOutside, IsStronger}
+use Rattle.corner_view.specs.Entries.{HasEntry}
 use Rattle.corner_ends.specs.Columns.{Reduced}
 use Rattle.dual_run.specs.declared.ratios.Choice.{Choice}
 use Rattle.dual_run.specs.declared.ratios.Found.{Found}

@@ -6,9 +6,9 @@ use Rattle.problem_core.specs.declared.parts.Side.{Side}
 use Rattle.problem_core.specs.Layout.{Problem}
 use Rattle.problem_core.specs.Corners.{HasNegativeValue, IsIn, place}
 use Rattle.problem_core.specs.Changes.Paths.{IsEndOf}
-use Rattle.corner_ends.specs.Views.{IsNamed}
+use Rattle.corner_view.specs.Seen.{IsNamed}
 use Rattle.corner_ends.specs.Trails.{Trail}
-use Rattle.corner_writings.specs.Lows.{ListsLow}
+use Rattle.corner_view.specs.Lows.{ListsLow}
 
 -- the mark is inside, and its value is negative
 pub record IsLow (p : Problem) (at : List Mark) (m : Mark) : Type 0 where

@@ -6,20 +6,21 @@ ghost use Rattle.problem_core.specs.Corners.{IsIn, NoNegativeColumn};
 ghost use Rattle.problem_core.specs.declared.parts.Side.TheVariants.{Under as UnderOf, Over as OverOf};
 ghost use Rattle.problem_core.specs.declared.stops.What.TheVariants.{Mark as MarkOf};
 ghost use Rattle.corner_laws.specs.Runs.{IsDualSwap, other_mark};
-ghost use Rattle.corner_ends.specs.Views.{IsMarkOf, IsOutside, MovesWith};
-ghost use Rattle.corner_writings.specs.Entries.{AreBothOutside};
+ghost use Rattle.corner_view.specs.Seen.{IsMarkOf, IsOutside, MovesWith};
+ghost use Rattle.corner_view.specs.Entries.{AreBothOutside};
 ghost use Rattle.dual_run.specs.Entering.{AreDear, HasNoGrower, IsBeforeEntries, IsBeforeLine, IsChoice};
 ghost use Rattle.dual_run.specs.Entering.{IsDear, IsFound, IsFree, IsNoGreater, IsNumberOf, NeverGrows};
 ghost use Rattle.dual_run.specs.Leaving.{MayLeave};
 
 use crate::leaving::other;
 use crate::ratios::{Choice, Found, is_before};
-use corner_ends::{Corner, coefficient_of, is_above, required_level};
+use corner_ends::{coefficient_of, is_above, required_level};
+use corner_view::{Corner, Tableau};
 use frac_core::{OutOfMemory, opposite};
 use problem_core::{Mark, RowName, Side, What};
 
 // The other mark of the leaving one's line, which grows as much.
-fn own_choice(c: &Corner, leave: Mark) -> Choice
+fn own_choice<T: Tableau>(c: &Corner<T>, leave: Mark) -> Choice
     requires { IsIn (corners.place leave) c.now.marks }
     ensures mark { result.mark ≡ other_mark leave }
     ensures choice { IsChoice c.now.problem c.now.marks leave result }
@@ -33,7 +34,7 @@ fn own_choice(c: &Corner, leave: Mark) -> Choice
 }
 
 // The number of an outside line's under mark. Its over mark has the opposite one.
-fn number_at(c: &Corner, leave: Mark, row: RowName) -> i64
+fn number_at<T: Tableau>(c: &Corner<T>, leave: Mark, row: RowName) -> i64
     requires leave { IsIn (corners.place leave) c.now.marks }
     requires row { AreBothOutside c.now.problem c.now.marks row }
     requires other { row ≢ leave.row }
@@ -52,7 +53,7 @@ fn number_at(c: &Corner, leave: Mark, row: RowName) -> i64
 
 // The mark of an outside line with its number, where the leaving mark grows with it: with the other one it
 // does not.
-fn grower(c: &Corner, leave: Mark, row: RowName) -> Option<Choice>
+fn grower<T: Tableau>(c: &Corner<T>, leave: Mark, row: RowName) -> Option<Choice>
     requires leave { IsIn (corners.place leave) c.now.marks }
     requires row { AreBothOutside c.now.problem c.now.marks row }
     requires other { row ≢ leave.row }
@@ -85,7 +86,7 @@ fn grower(c: &Corner, leave: Mark, row: RowName) -> Option<Choice>
 }
 
 // The choice with its mark's front.
-fn found_at(c: &Corner, leave: Mark, choice: Choice) -> Found
+fn found_at<T: Tableau>(c: &Corner<T>, leave: Mark, choice: Choice) -> Found
     requires { IsChoice c.now.problem c.now.marks leave choice }
     ensures found { IsFound c.now.problem c.now.marks leave result }
     ensures choice { result.choice ≡ choice }
@@ -97,7 +98,7 @@ fn found_at(c: &Corner, leave: Mark, choice: Choice) -> Found
 }
 
 // The one of the two with the lesser column over its number.
-fn lesser(c: &Corner, leave: Mark, a: Found, b: Found) -> Result<Found, OutOfMemory>
+fn lesser<T: Tableau>(c: &Corner<T>, leave: Mark, a: Found, b: Found) -> Result<Found, OutOfMemory>
     requires columns { NoNegativeColumn c.now.problem c.now.marks }
     requires a { IsFound c.now.problem c.now.marks leave a }
     requires b { IsFound c.now.problem c.now.marks leave b }
@@ -110,7 +111,7 @@ fn lesser(c: &Corner, leave: Mark, a: Found, b: Found) -> Result<Found, OutOfMem
 }
 
 // Whether a mark costs at the level of the required rows.
-fn is_dear(c: &Corner, mark: Mark) -> bool
+fn is_dear<T: Tableau>(c: &Corner<T>, mark: Mark) -> bool
     requires { IsMarkOf c.now.problem mark }
     ensures yes { result ≡ true → IsDear c.now.problem c.now.marks mark }
     ensures no { result ≡ false → IsFree c.now.problem c.now.marks mark }
@@ -121,8 +122,8 @@ fn is_dear(c: &Corner, mark: Mark) -> bool
 
 // The one with the lesser column over its number, of what is found and a choice. What costs at the level of
 // the required rows is never lesser than what costs nothing there, so that its front needn't be read.
-fn better(
-    c: &Corner,
+fn better<T: Tableau>(
+    c: &Corner<T>,
     leave: Mark,
     found: Found,
     next: Choice,
@@ -146,8 +147,8 @@ fn better(
 }
 
 // The one with the least column over its number, of what is found and the marks of an outside line.
-fn better_of(
-    c: &Corner,
+fn better_of<T: Tableau>(
+    c: &Corner<T>,
     leave: Mark,
     found: Found,
     row: RowName,
@@ -175,7 +176,7 @@ fn better_of(
 
 // The mark with the least column over its number, of all outside marks with which the leaving one grows.
 // `is_free` says that the one of its own line costs nothing at the level of the required rows.
-fn least(c: &Corner, leave: Mark, is_free: bool) -> Result<Choice, OutOfMemory>
+fn least<T: Tableau>(c: &Corner<T>, leave: Mark, is_free: bool) -> Result<Choice, OutOfMemory>
     requires columns { NoNegativeColumn c.now.problem c.now.marks }
     requires leave { IsIn (corners.place leave) c.now.marks }
     requires free { is_free ≡ true → IsFree c.now.problem c.now.marks (other_mark leave) }
@@ -196,7 +197,7 @@ fn least(c: &Corner, leave: Mark, is_free: bool) -> Result<Choice, OutOfMemory>
 
 // Whether all outside marks of other lines with which the leaving one grows cost at the level of the
 // required rows.
-fn are_dear(c: &Corner, leave: Mark) -> bool
+fn are_dear<T: Tableau>(c: &Corner<T>, leave: Mark) -> bool
     requires { IsIn (corners.place leave) c.now.marks }
     ensures { result ≡ true → AreDear c.now.problem c.now.marks leave }
 {
@@ -206,7 +207,7 @@ fn are_dear(c: &Corner, leave: Mark) -> bool
 
 // Whether of all marks with which the leaving one grows its line's other mark alone costs nothing at the
 // level of the required rows. `is_free` says that this one costs nothing there.
-fn turns(c: &Corner, leave: Mark, is_free: bool) -> bool
+fn turns<T: Tableau>(c: &Corner<T>, leave: Mark, is_free: bool) -> bool
     requires { IsIn (corners.place leave) c.now.marks }
     ensures free { result ≡ true → is_free ≡ true }
     ensures dear { result ≡ true → AreDear c.now.problem c.now.marks leave }
@@ -215,7 +216,7 @@ fn turns(c: &Corner, leave: Mark, is_free: bool) -> bool
 }
 
 /// The mark that enters. Where the required rows alone decide, it is the leaving one's other mark.
-pub(crate) fn entering(c: &Corner, leave: Mark) -> Result<Mark, OutOfMemory>
+pub(crate) fn entering<T: Tableau>(c: &Corner<T>, leave: Mark) -> Result<Mark, OutOfMemory>
     requires columns { NoNegativeColumn c.now.problem c.now.marks }
     requires leave { MayLeave c.now.problem c.now.marks leave }
     ensures outside { IfOk result (IsOutside c.now.problem c.now.marks) }

@@ -1,11 +1,12 @@
 //! The dual run: exchanges from a corner without negative columns to one without negative values.
 //!
-//! [`restore`] goes to the best values again after constants have changed. A mark with a negative value
-//! leaves. Of the outside marks with which it grows that one enters whose column over its number is the
-//! least, level by level, so no column becomes negative. With the leaving mark the other one of its line
-//! grows, so there always is one. This one enters, and nothing else is compared, where it costs nothing at
-//! the level of the required rows and all others cost there. Where the required rows cost, the multipliers of
-//! their level show that they have no solution.
+//! [`restore`] goes to the best values again after constants have changed. Of the marks with negative values,
+//! one of the strongest line leaves, stays last, and among these the one with the lowest value. Of the outside
+//! marks with which it grows that one enters whose column over its number is the least, level by level, so no
+//! column becomes negative. With the leaving mark the other one of its line grows, so there always is one.
+//! This one enters, and nothing else is compared, where it costs nothing at the level of the required rows and
+//! all others cost there. Where the required rows cost, the multipliers of their level show that they have no
+//! solution.
 //!
 //! ```
 //! corner.mark();
@@ -31,7 +32,7 @@
 //! over its number, is the dual ratio test, and the exchange of a mark for the other one of its line is the
 //! pivot of a slack for its own surplus.
 //!
-//! To read: `leaving` finds a mark with a negative value and lists lines, `shifts` lists those of a new
+//! To read: `leaving` finds the mark that leaves and lists lines, `shifts` lists those of a new
 //! constant; `ratios` tells which of two columns over their numbers is the lesser, `entering` which of all
 //! that have a number in the leaving mark's row; `runs` makes an exchange; and `restoring` is the run. The
 //! exchanges so far are a `Trail` of `corner_ends`, as in the primal run.

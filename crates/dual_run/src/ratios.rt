@@ -5,11 +5,12 @@ ghost use Rattle.std.specs.declared.cmp.Ordering.TheVariants.{Less as IsLess, Gr
 ghost use Rattle.problem_core.specs.Corners as corners;
 ghost use Rattle.problem_core.specs.Corners.{NoNegativeColumn};
 ghost use Rattle.problem_core.specs.Levels.{IsLevelAt};
-ghost use Rattle.corner_ends.specs.Views.{IsFrontOf, IsInUse, IsMarkOf};
+ghost use Rattle.corner_view.specs.Fronts.{IsFrontOf};
+ghost use Rattle.corner_view.specs.Seen.{IsInUse, IsMarkOf};
 ghost use Rattle.corner_ends.specs.Columns.{Reduced};
 ghost use Rattle.dual_run.specs.Entering.{AreLevels, HasFront, IsNoGreater, IsPositive};
 
-use corner_ends::{Corner, Front};
+use corner_view::{Corner, Front, Tableau};
 use frac_core::{OutOfMemory, product};
 use problem_core::{Level, Mark};
 use std::cmp::Ordering;
@@ -29,7 +30,7 @@ pub(crate) struct Found {
 }
 
 // The order of two marks' reduced costs at a level, each over its number.
-fn order_at(c: &Corner, level: Level, a: Choice, b: Choice) -> Ordering
+fn order_at<T: Tableau>(c: &Corner<T>, level: Level, a: Choice, b: Choice) -> Ordering
     requires used { IsInUse c.now.problem level }
     requires a { IsMarkOf c.now.problem a.mark }
     requires b { IsMarkOf c.now.problem b.mark }
@@ -44,7 +45,7 @@ fn order_at(c: &Corner, level: Level, a: Choice, b: Choice) -> Ordering
 
 // Whether the first column over its number is no greater than the second, by these levels; if not, the
 // second is no greater than the first.
-fn is_before_at(c: &Corner, levels: &[Level], a: Choice, b: Choice) -> bool
+fn is_before_at<T: Tableau>(c: &Corner<T>, levels: &[Level], a: Choice, b: Choice) -> bool
     requires levels { AreLevels c.now.problem levels.now }
     requires a { IsMarkOf c.now.problem a.mark }
     requires b { IsMarkOf c.now.problem b.mark }
@@ -73,7 +74,7 @@ fn ratio_order(a: Choice, f: Front, b: Choice, g: Front) -> Ordering
 // The order of two columns over their numbers by their fronts: the weaker front is the lesser, and of fronts
 // at one level that with the lesser ratio. Equal where levels behind them decide. Of two levels one is the
 // stronger, so one look decides.
-fn front_order(c: &Corner, a: Choice, f: Front, b: Choice, g: Front) -> Ordering
+fn front_order<T: Tableau>(c: &Corner<T>, a: Choice, f: Front, b: Choice, g: Front) -> Ordering
     requires columns { NoNegativeColumn c.now.problem c.now.marks }
     requires a { IsPositive c.now.problem a }
     requires b { IsPositive c.now.problem b }
@@ -94,7 +95,7 @@ fn front_order(c: &Corner, a: Choice, f: Front, b: Choice, g: Front) -> Ordering
 }
 
 // The order of two columns over their numbers, Equal where levels behind their fronts decide.
-fn order(c: &Corner, a: Found, b: Found) -> Ordering
+fn order<T: Tableau>(c: &Corner<T>, a: Found, b: Found) -> Ordering
     requires columns { NoNegativeColumn c.now.problem c.now.marks }
     requires a { IsPositive c.now.problem a.choice }
     requires b { IsPositive c.now.problem b.choice }
@@ -115,7 +116,7 @@ fn order(c: &Corner, a: Found, b: Found) -> Ordering
 
 /// Whether the first column over its number is no greater than the second; if not, the second is no greater
 /// than the first. The levels are listed only where the fronts are equal.
-pub(crate) fn is_before(c: &Corner, a: Found, b: Found) -> Result<bool, OutOfMemory>
+pub(crate) fn is_before<T: Tableau>(c: &Corner<T>, a: Found, b: Found) -> Result<bool, OutOfMemory>
     requires columns { NoNegativeColumn c.now.problem c.now.marks }
     requires a { IsPositive c.now.problem a.choice }
     requires b { IsPositive c.now.problem b.choice }

@@ -4,7 +4,7 @@ ghost use Rattle.std.specs.Prelude.{IfSome, IfNone};
 ghost use Rattle.problem_core.specs.Corners.{NoNegativeColumn, NoNegativeValue};
 ghost use Rattle.problem_core.specs.Levels.{CostsAbove};
 ghost use Rattle.cert_core.specs.Stops.{IsStopOf};
-ghost use Rattle.corner_ends.specs.Changes.{scene_of};
+ghost use Rattle.corner_view.specs.Changes.{scene_of};
 ghost use Rattle.corner_ends.specs.Runs.{FromHere, HasEnded, HasRunBetween};
 ghost use Rattle.corner_ends.specs.Shares.{IsConflictStop};
 ghost use Rattle.dual_run.specs.Leaving.{AreLowLines, MayLeave};
@@ -12,12 +12,17 @@ ghost use Rattle.dual_run.specs.Leaving.{AreLowLines, MayLeave};
 use crate::leaving::leaving;
 use crate::runs::exchange;
 use cert_core::RunStop;
-use corner_ends::{Corner, Trail, conflict_stop, is_costly};
+use corner_ends::{Trail, conflict_stop, is_costly};
+use corner_view::{Corner, Tableau};
 use problem_core::{Mark, RowName};
 use std::alloc::Global;
 
 // The mark that leaves next, and None at the end of the run.
-fn next(alloc: Global, c: &Corner, low: &mut Vec<RowName>) -> Result<Option<Mark>, RunStop>
+fn next<T: Tableau>(
+    alloc: Global,
+    c: &Corner<T>,
+    low: &mut Vec<RowName>,
+) -> Result<Option<Mark>, RunStop>
     requires columns { NoNegativeColumn c.now.problem c.now.marks }
     requires low { AreLowLines c.now.problem c.now.marks low.old.items }
     ensures low { AreLowLines c.now.problem c.now.marks low.new.items }
@@ -34,7 +39,7 @@ fn next(alloc: Global, c: &Corner, low: &mut Vec<RowName>) -> Result<Option<Mark
 }
 
 // Takes all lines off the list, where no column is negative.
-fn unlist_all(c: &mut Corner)
+fn unlist_all<T: Tableau>(c: &mut Corner<T>)
     requires { NoNegativeColumn c.old.problem c.old.marks }
     ensures scene { scene_of c.new ≡ scene_of c.old }
     ensures before { c.new.before ≡ c.old.before }
@@ -53,7 +58,12 @@ fn unlist_all(c: &mut Corner)
 /// at the path's last corner. `Spent`: the path has as many exchanges as the budget, and its last corner is
 /// no end. After a stop the caller goes back to the corner's newest mark. Only the given lines and those
 /// whose values change on the way are looked at for negative values.
-pub fn restore(alloc: Global, c: &mut Corner, low: Vec<RowName>, budget: u64) -> Result<(), RunStop>
+pub fn restore<T: Tableau>(
+    alloc: Global,
+    c: &mut Corner<T>,
+    low: Vec<RowName>,
+    budget: u64,
+) -> Result<(), RunStop>
     requires marked { 0 < length c.old.before }
     requires columns { NoNegativeColumn c.old.problem c.old.marks }
     requires low { AreLowLines c.old.problem c.old.marks low.items }

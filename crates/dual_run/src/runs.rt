@@ -8,15 +8,16 @@ ghost use Rattle.dual_run.specs.Leaving.{AreLowLines, HasSwapped, MayLeave};
 use crate::entering::entering;
 use crate::leaving::list_swapped;
 use cert_core::{RunStop, Swap};
-use corner_ends::{Corner, Trail};
+use corner_ends::Trail;
+use corner_view::{Corner, Tableau};
 use frac_core::Stop;
 use problem_core::{Mark, RowName};
 
 /// Exchanges a mark that may leave for that with the least column over its number, and lists the lines
 /// whose values are negative after it.
-pub fn exchange(
+pub fn exchange<T: Tableau>(
     trail: &mut Trail,
-    c: &mut Corner,
+    c: &mut Corner<T>,
     leave: Mark,
     low: &mut Vec<RowName>,
 ) -> Result<(), RunStop>

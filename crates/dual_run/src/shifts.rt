@@ -3,16 +3,21 @@ ghost use Rattle.std.specs.Prelude.{◌≡◌, ◌<◌, length, IfOk, IfErr, OnE
 ghost use Rattle.problem_core.specs.Kept.{IsWhole};
 ghost use Rattle.problem_core.specs.declared.parts.RowName.TheVariants.{Held};
 ghost use Rattle.corner_lines.specs.Shifts.{with_constant};
-ghost use Rattle.corner_ends.specs.Changes.{IsRewound, IsUnfitStop};
-ghost use Rattle.corner_ends.specs.Changes.{IsNear};
+ghost use Rattle.corner_view.specs.Changes.{IsNear, IsRewound};
+ghost use Rattle.corner_view.specs.Stops.{IsUnfitStop};
 ghost use Rattle.dual_run.specs.Leaving.{AreLowLines};
 
-use corner_ends::Corner;
+use corner_view::{Corner, Tableau};
 use frac_core::{Frac, OutOfMemory, Stop};
 use problem_core::{RowName, TableStop};
 
 /// Gives a row this constant, as `Corner::shift` does, and lists the lines whose values are negative with it.
-pub fn shift(c: &mut Corner, low: &mut Vec<RowName>, id: u32, to: Frac) -> Result<(), TableStop>
+pub fn shift<T: Tableau>(
+    c: &mut Corner<T>,
+    low: &mut Vec<RowName>,
+    id: u32,
+    to: Frac,
+) -> Result<(), TableStop>
     requires marked { 0 < length c.old.before }
     requires near { IsNear c.old.problem id to }
     ensures problem { IfOk result (λ _. c.new.problem ≡ with_constant id to c.old.problem) }

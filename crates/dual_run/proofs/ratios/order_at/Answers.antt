@@ -6,7 +6,7 @@ use Rattle.dual_run.proofs.Orders.{cost_there}
 use Rattle.dual_run.proofs.ratios.order_at.Goals as goal
 
 pub returns : goal.returns
-returns c = λ r k here.
+returns g c = λ r k here.
     let by-a : SFits w64 c.args.a.by = search rules in
     let by-b : SFits w64 c.args.b.by = search rules in
     let cost-a : SFits w64 c.reduced.result = search rules in

@@ -4,7 +4,7 @@ use Rattle.corner_ends.specs.Trails.{IsTrailOf}
 use Rattle.dual_run.proofs.restoring.restore.Given as goal
 
 abbrev pub invariant-loop-low : goal.invariant-loop-low
-invariant-loop-low l = record {
+invariant-loop-low g l = record {
   problem : l.c.problem ≡ l.fn.c.problem;
   before : l.c.before ≡ l.fn.c.before;
   trail : IsTrailOf true l.c.problem l.fn.c.marks l.trail l.c.marks;
@@ -13,4 +13,4 @@ invariant-loop-low l = record {
 }
 
 abbrev pub decreases-loop-low : goal.decreases-loop-low
-decreases-loop-low l = l.budget - length l.trail.swaps
+decreases-loop-low g l = l.budget - length l.trail.swaps

@@ -4,8 +4,8 @@ use Rattle.problem_core.specs.declared.parts.Mark.{Mark}
 use Rattle.frac_core.specs.declared.memory.Stop.TheVariants.{Refused}
 use Rattle.problem_core.specs.Corners.{Swap, exchanged}
 use Rattle.cert_core.specs.Stops.{IsStopOf}
-use Rattle.corner_ends.specs.Views.{CornerView, IsNamed}
-use Rattle.corner_ends.specs.Changes.{IsUnfitStop}
+use Rattle.corner_view.specs.Seen.{CornerView, IsNamed}
+use Rattle.corner_view.specs.Stops.{IsUnfitStop}
 use Rattle.corner_ends.specs.Runs.{FromHere}
 use Rattle.corner_ends.specs.Trails.{HasRun, IsTrailOf}
 use Rattle.corner_ends.proofs.Marks.{in_mark}
@@ -13,30 +13,30 @@ use Rattle.corner_ends.proofs.MarkOrders.{same_self}
 use Rattle.dual_run.proofs.Moved.{lows_swapped}
 use Rattle.dual_run.proofs.RunFacts.{none_settled, swap_more}
 use Rattle.dual_run.proofs.runs.exchange.Goals as goal
-use Rattle.corner_table.proofs.Readings.ReadFacts.{mark_named}
+use Rattle.corner_view.proofs.Facts.{mark_named}
 
 pub returns-in_ok-push-in-Ok-clause-trail : goal.returns-in_ok-push-in-Ok-clause-trail
-returns-in_ok-push-in-Ok-clause-trail c = λ first trail.
+returns-in_ok-push-in-Ok-clause-trail g c = λ first trail.
     let s : Swap = record { enter = c.in_ok-enter.enter; leave = c.args.leave } in
     subst (λ (p : Problem). IsTrailOf true p first c.push.new.self c.swap_settled.new.self.marks) (sym c.in-Ok.ensures.problem)
     (c.in_ok-push-in-Ok.ensures.trail true c.args.c.now.problem first c.args.c.now.marks c.swap_settled.new.self.marks trail
     (swap_more c.args.c.now.problem first c.args.c.now.marks c.swap_settled.new.self.marks c.args.trail.now.swaps s trail.swapped c.in_ok-enter.ensures.swap c.in-Ok.ensures.marks))
 
 pub list_swapped-requires-clause-enter : goal.list_swapped-requires-clause-enter
-list_swapped-requires-clause-enter c = subst (λ (p : Problem). IsNamed p c.in_ok-enter.enter.row) (sym c.in-Ok.ensures.problem) (mark_named c.args.c.now.problem c.in_ok-enter.enter c.in_ok-enter.ensures.outside.0)
+list_swapped-requires-clause-enter g c = subst (λ (p : Problem). IsNamed p c.in_ok-enter.enter.row) (sym c.in-Ok.ensures.problem) (mark_named c.args.c.now.problem c.in_ok-enter.enter c.in_ok-enter.ensures.outside.0)
 
 pub list_swapped-requires-clause-leave : goal.list_swapped-requires-clause-leave
-list_swapped-requires-clause-leave c =
+list_swapped-requires-clause-leave g c =
     subst (λ (p : Problem). IsNamed p c.args.leave.row) (sym c.in-Ok.ensures.problem)
     (mark_named c.args.c.now.problem c.args.leave (in_mark c.args.c.now.problem c.args.c.now.marks c.args.leave c.show_corner.ensures.kept c.requires.leave.low.inside))
 
 pub returns-in_ok-push-in-Ok-clause-low : goal.returns-in_ok-push-in-Ok-clause-low
-returns-in_ok-push-in-Ok-clause-low c =
+returns-in_ok-push-in-Ok-clause-low g c =
     lows_swapped c.args.c.now.problem c.swap_settled.new.self.problem c.args.c.now.marks c.swap_settled.new.self.marks (record { enter = c.in_ok-enter.enter; leave = c.args.leave }) c.args.low.now.items c.list_swapped.new.low.items
     c.show_corner.ensures.kept c.show_corner-in-Ok.ensures.kept c.in-Ok.ensures.problem c.in-Ok.ensures.marks c.requires.low c.requires.leave.low c.in_ok-enter.ensures.outside c.in_ok-list_swapped-in-Ok.ensures
 
 pub returns-in-Err-Refused-clause-stop : goal.returns-in-Err-Refused-clause-stop
-returns-in-Err-Refused-clause-stop c = λ first trail budget short.
+returns-in-Err-Refused-clause-stop g c = λ first trail budget short.
     let s : Swap = record { enter = c.in_ok-enter.enter; leave = c.args.leave } in
     let next : List Mark = exchanged s c.args.c.now.marks in
     let same : c.swap_settled.new.self ≡ c.args.c.now = search rules in
@@ -48,10 +48,10 @@ returns-in-Err-Refused-clause-stop c = λ first trail budget short.
     budget short
 
 pub returns-in_ok-push-in-Ok-clause-swap : goal.returns-in_ok-push-in-Ok-clause-swap
-returns-in_ok-push-in-Ok-clause-swap c = (c.in_ok-enter.enter, c.in_ok-push-in-Ok.ensures.swaps)
+returns-in_ok-push-in-Ok-clause-swap g c = (c.in_ok-enter.enter, c.in_ok-push-in-Ok.ensures.swaps)
 
 pub swap_settled-requires-clause-settled : goal.swap_settled-requires-clause-settled
-swap_settled-requires-clause-settled c =
+swap_settled-requires-clause-settled g c =
     let s : Swap = record { enter = c.in_ok-enter.enter; leave = c.args.leave } in
     let next : List Mark = exchanged s c.args.c.now.marks in
     let (first, trail) = c.requires.trail in
