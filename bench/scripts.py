@@ -19,6 +19,8 @@
                                                   (`none`), or `diagnose`
     python3 bench/scripts.py certify VIEWS        a chain and `certify`
     python3 bench/scripts.py keep VIEWS NUMBER    a chain, and `keep` of the view of this number
+    python3 bench/scripts.py live WIDGETS STEP    a form of so many widgets, half labels and half fields, then windows that make it
+                                                  narrower and wider again by so many points each
     python3 bench/scripts.py largest BYTES        of so many bytes: as many views as a session holds, wishes of eight widths each in
                                                   half of them, and windows of two sizes in turn
 
@@ -177,6 +179,36 @@ def largest(size):
             yield line
 
 
+def widget(name, width, height, least):
+    yield f"view {name}"
+    yield f"size {name} {width} {height} hug 300 resist 700"
+    yield f"metric {name}_w {least}"
+    yield f"constrain {name}_m {name}.width >= {name}_w"
+
+
+def form(rows):
+    """Rows of a label and a field. All labels are as wide as the first, and the rows stand below each other."""
+    for i in range(rows):
+        yield from widget(f"l{i}", 40 + i * 7 % 50, 17, 20)
+        yield from widget(f"f{i}", 160, 30, 60)
+    for i in range(rows):
+        yield f"vfl row{i} H:|-12-[l{i}(==l0)]-6-[f{i}]-12-|"
+        yield f"vfl row{i} V:[f{i - 1}]-6-[f{i}]" if i else "vfl row0 V:|-12-[f0]"
+        yield f"constrain row{i} l{i}.centerY == f{i}.centerY"
+    yield f"constrain bottom f{rows - 1}.bottom <= window.bottom - 12"
+
+
+def live(widgets, step):
+    rows = widgets // 2
+    width, height, turn = 600, 40 * rows + 100, 488 // step
+    yield "layout 2"
+    yield from form(rows)
+    yield f"window {width} {height}"
+    for i in range(2 * turn):
+        yield f"window {width} {height}"
+        width += -step if i + 1 < turn else step
+
+
 def main(words):
     match words:
         case ["chain", seed, views]:
@@ -209,6 +241,8 @@ def main(words):
             lines = [*chain(draws(1), int(views)), "certify"]
         case ["keep", views, number]:
             lines = keep(int(views), int(number))
+        case ["live", widgets, step]:
+            lines = live(int(widgets), int(step))
         case ["largest", size]:
             lines = largest(int(size))
         case _:

@@ -1,11 +1,12 @@
 """Counts the instructions of kiwi's C++ alone, inside the process of its Python binding.
 
-    python3 kiwi_alone.py OPERATIONS
+    python3 kiwi_alone.py OPERATIONS [live]
 
 It runs kiwi_peer.py over the operations under valgrind's callgrind, with the same python3, and adds up the costs of the
 solver's methods with everything that they call, by the calls from outside the binding's module. The module has no symbols, so
 the beginning of a method is read from its table of methods, where each name is before its address. The work of python, and
-the making of terms and constraints, isn't counted.
+the making of terms and constraints, isn't counted. With `live` kiwi_peer.py
+runs with it too, and only the changes of edit variables and the updates after them are counted.
 """
 import os
 import re
@@ -111,17 +112,19 @@ def address_of(name):
     return int(found.group(), 16) if found else None
 
 
-def main(operations):
+def main(operations, *what):
     module = module_path()
     names = methods(module)
     peer = os.path.join(os.path.dirname(os.path.abspath(__file__)), "kiwi_peer.py")
     with tempfile.TemporaryDirectory() as room:
         counted = os.path.join(room, "callgrind")
-        words = ["valgrind", "--tool=callgrind", f"--callgrind-out-file={counted}", sys.executable, peer, operations]
-        subprocess.run(words, capture_output=True, check=True)
+        words = ["valgrind", "--tool=callgrind", f"--callgrind-out-file={counted}"]
+        if what:
+            words.append("--dump-before=getppid")  # what was counted before goes into another file
+        subprocess.run([*words, sys.executable, peer, operations, *what], capture_output=True, check=True)
         with open(counted, encoding="utf-8") as lines:
             calls = list(calls_into(lines, os.path.realpath(module)))
     print(sum(cost for name, cost in calls if names.get(address_of(name)) in SOLVER))
 
 
-main(sys.argv[1])
+main(*sys.argv[1:])
