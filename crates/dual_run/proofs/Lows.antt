@@ -90,11 +90,15 @@ outside_not_low p at m mark out (x, stands, low) = out (inside-low p at m x mark
 
 -- ---- the listed lines
 
+-- the other mark of an inside one's line is a mark
+pub other_is_mark : (p : Problem) (at : List Mark) (m : Mark) → IsKeptCorner p at → IsIn (place m) at → IsMarkOf p (other_mark m)
+other_is_mark p at m kept inside = named_mark p m.row (other_side m.side) (mark_named p m (in_mark p at m kept inside))
+
 -- a line has one inside mark at most
 pub other_not_low : (p : Problem) (at : List Mark) (m : Mark) → IsKeptCorner p at → IsIn (place m) at → HasNegativeValue p at (other_mark m) → ⊥
 other_not_low p at m kept inside =
     let t = column_has_writing p at (place m) kept.corner kept.rays (inl (in_mark p at m kept inside)) in
-    outside_not_low p at (other_mark m) (named_mark p m.row (other_side m.side) (mark_named p m (in_mark p at m kept inside)))
+    outside_not_low p at (other_mark m) (other_is_mark p at m kept inside)
     (other_mark_grows p at m (record { scale = t.0; form = t.1; num = t.2; den = t.3 }) kept.whole kept.corner inside t.4).0
 
 -- where no line is listed no value is negative

@@ -1,3 +1,4 @@
 pub mod Leaving
 pub mod Entering
 pub mod FoundLows
+pub mod Turning

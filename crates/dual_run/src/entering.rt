@@ -111,7 +111,7 @@ fn lesser<T: Tableau>(c: &Corner<T>, leave: Mark, a: Found, b: Found) -> Result<
 }
 
 // Whether a mark costs at the level of the required rows.
-fn is_dear<T: Tableau>(c: &Corner<T>, mark: Mark) -> bool
+pub(crate) fn is_dear<T: Tableau>(c: &Corner<T>, mark: Mark) -> bool
     requires { IsMarkOf c.now.problem mark }
     ensures yes { result ≡ true → IsDear c.now.problem c.now.marks mark }
     ensures no { result ≡ false → IsFree c.now.problem c.now.marks mark }
@@ -207,7 +207,7 @@ fn are_dear<T: Tableau>(c: &Corner<T>, leave: Mark) -> bool
 
 // Whether of all marks with which the leaving one grows its line's other mark alone costs nothing at the
 // level of the required rows. `is_free` says that this one costs nothing there.
-fn turns<T: Tableau>(c: &Corner<T>, leave: Mark, is_free: bool) -> bool
+pub(crate) fn turns<T: Tableau>(c: &Corner<T>, leave: Mark, is_free: bool) -> bool
     requires { IsIn (corners.place leave) c.now.marks }
     ensures free { result ≡ true → is_free ≡ true }
     ensures dear { result ≡ true → AreDear c.now.problem c.now.marks leave }

@@ -2,12 +2,15 @@
 ghost use Rattle.std.specs.Prelude.{◌≡◌, ◌⊎◌, ◌<◌, ◌≤◌, ◌+◌, length, Some, true, IfSome, IfNone};
 ghost use Rattle.std.specs.Prelude.{IsSome, OnOk};
 ghost use Rattle.std.specs.List.Sorted.{IsPermutation};
-ghost use Rattle.problem_core.specs.Corners.{NoNegativeValue};
+ghost use Rattle.problem_core.specs.Corners as corners;
+ghost use Rattle.problem_core.specs.Corners.{IsIn, NoNegativeValue};
 ghost use Rattle.corner_laws.specs.Runs.{other_mark};
 ghost use Rattle.corner_view.specs.Seen.{IsNamed};
 ghost use Rattle.dual_run.specs.Leaving.{AreLowLines, HasNoLow, IsLow, ListsSwapped};
+ghost use Rattle.dual_run.specs.Turning.{IsLeave, MayTurn};
 ghost use Rattle.dual_run.specs.FoundLows.{IsFoundLow, IsTwice};
 
+use crate::entering::{is_dear, turns};
 use corner_view::{Corner, Tableau};
 use frac_core::{Frac, OutOfMemory};
 use problem_core::{Mark, RowName, Side};
@@ -157,9 +160,9 @@ fn sort(low: &mut Vec<RowName>)
     low.sort_unstable_by_key(|name| key_of(*name));
 }
 
-/// The mark that leaves: among those with a negative value one of the strongest row, stays last, and of these
-/// the one with the lowest value. Lines without a negative value are taken off the list.
-pub(crate) fn leaving<T: Tableau>(c: &Corner<T>, low: &mut Vec<RowName>) -> Option<Mark>
+// Among the marks with negative values one of the strongest row, stays last, and of these the one with the
+// lowest value. Lines without a negative value are taken off the list.
+fn strongest<T: Tableau>(c: &Corner<T>, low: &mut Vec<RowName>) -> Option<Mark>
     requires { AreLowLines c.now.problem c.now.marks low.old.items }
     ensures low { AreLowLines c.now.problem c.now.marks low.new.items }
     ensures some { IfSome result (IsLow c.now.problem c.now.marks) }
@@ -176,6 +179,121 @@ pub(crate) fn leaving<T: Tableau>(c: &Corner<T>, low: &mut Vec<RowName>) -> Opti
     match best {
         Some(found) => Some(found.mark),
         None => None,
+    }
+}
+
+/// A mark that leaves, and whether its line turns: then its other mark enters.
+#[derive(Clone, Copy)]
+pub(crate) struct Leave {
+    pub mark: Mark,
+    pub turns: bool,
+}
+
+// Whether the required rows alone decide that the mark's line turns.
+fn is_turn<T: Tableau>(c: &Corner<T>, leave: Mark) -> bool
+    requires { IsIn (corners.place leave) c.now.marks }
+    ensures { result ≡ true → MayTurn c.now.problem c.now.marks leave }
+{
+    c.show_corner(); // for the proof: what a corner keeps
+    let own = other(leave);
+    let is_free = !is_dear(c, own);
+    turns(c, leave, is_free)
+}
+
+// The mark of the listed line at a place, if the line turns. A line without a negative value is taken off the
+// list.
+fn turn_at<T: Tableau>(c: &Corner<T>, low: &mut Vec<RowName>, at: usize) -> Option<Leave>
+    requires low { AreLowLines c.now.problem c.now.marks low.old.items }
+    requires within { at < length low.old.items }
+    ensures low { AreLowLines c.now.problem c.now.marks low.new.items }
+    ensures within { at ≤ length low.new.items }
+    ensures some { IfSome result (IsLeave c.now.problem c.now.marks) }
+{
+    let name = low[at];
+    match low_of(c, name) {
+        Some(mark) => {
+            let turns = is_turn(c, mark);
+            if turns {
+                Some(Leave { mark, turns })
+            } else {
+                None
+            }
+        }
+        None => {
+            low.swap_remove(at);
+            None
+        }
+    }
+}
+
+// The last line that turns of the first lines on the list, and how many of these are left to look at. This
+// line is left too: it is taken off at the next look.
+fn turning<T: Tableau>(
+    c: &Corner<T>,
+    low: &mut Vec<RowName>,
+    fresh: usize,
+) -> (Option<Leave>, usize)
+    requires low { AreLowLines c.now.problem c.now.marks low.old.items }
+    requires within { fresh ≤ length low.old.items }
+    ensures low { AreLowLines c.now.problem c.now.marks low.new.items }
+    ensures some { IfSome result.0 (IsLeave c.now.problem c.now.marks) }
+{
+    let mut at = fresh;
+    while at > 0 {
+        let found = turn_at(c, low, at - 1);
+        if found.is_some() {
+            return (found, at);
+        }
+        at -= 1;
+    }
+    (None, 0)
+}
+
+// The lesser number.
+fn at_most(left: usize, count: usize) -> usize
+    ensures { result ≤ count }
+{
+    if left > count { count } else { left }
+}
+
+// The strongest mark. Where its line turns, others may turn too, so all are left to look at.
+fn strongest_leave<T: Tableau>(
+    c: &Corner<T>,
+    low: &mut Vec<RowName>,
+    left: &mut usize,
+) -> Option<Leave>
+    requires { AreLowLines c.now.problem c.now.marks low.old.items }
+    ensures low { AreLowLines c.now.problem c.now.marks low.new.items }
+    ensures some { IfSome result (IsLeave c.now.problem c.now.marks) }
+    ensures none { IfNone result (NoNegativeValue c.now.problem c.now.marks) }
+{
+    let mark = strongest(c, low)?;
+    let turns = is_turn(c, mark);
+    if turns {
+        *left = low.len();
+    }
+    Some(Leave { mark, turns })
+}
+
+/// The mark that leaves: that of the last line which turns, of the `left` first ones on the list, and where
+/// none turns the strongest one. Lines without a negative value are taken off the list. After an exchange the
+/// lines aren't looked at for turns, since hardly any turns then, until the strongest one does.
+pub(crate) fn leaving<T: Tableau>(
+    c: &Corner<T>,
+    low: &mut Vec<RowName>,
+    left: &mut usize,
+) -> Option<Leave>
+    requires { AreLowLines c.now.problem c.now.marks low.old.items }
+    ensures low { AreLowLines c.now.problem c.now.marks low.new.items }
+    ensures some { IfSome result (IsLeave c.now.problem c.now.marks) }
+    ensures none { IfNone result (NoNegativeValue c.now.problem c.now.marks) }
+{
+    let fresh = at_most(*left, low.len());
+    let (found, still) = turning(c, low, fresh);
+    *left = still;
+    match found {
+        Some(leave) => Some(leave),
+        None => strongest_leave(c, low, left),
     }
 }
 

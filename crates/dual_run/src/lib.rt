@@ -1,12 +1,15 @@
 //! The dual run: exchanges from a corner without negative columns to one without negative values.
 //!
-//! [`restore`] goes to the best values again after constants have changed. Of the marks with negative values,
-//! one of the strongest line leaves, stays last, and among these the one with the lowest value. Of the outside
-//! marks with which it grows that one enters whose column over its number is the least, level by level, so no
-//! column becomes negative. With the leaving mark the other one of its line grows, so there always is one.
-//! This one enters, and nothing else is compared, where it costs nothing at the level of the required rows and
-//! all others cost there. Where the required rows cost, the multipliers of their level show that they have no
-//! solution.
+//! [`restore`] goes to the best values again after constants have changed. Of the outside marks with which the
+//! leaving one grows that one enters whose column over its number is the least, level by level, so no column
+//! becomes negative. With the leaving mark the other one of its line grows, so there always is one. The line
+//! turns, and nothing else is compared, where the other mark costs nothing at the level of the required rows
+//! and all others cost there. Where the required rows cost, the multipliers of their level show that they have
+//! no solution.
+//!
+//! Of the marks with negative values at first those leave whose lines turn, since a turn changes no other value
+//! and takes no comparison. Then one of the strongest line leaves, stays last, and among these the one with the
+//! lowest value.
 //!
 //! ```
 //! corner.mark();

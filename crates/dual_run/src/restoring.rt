@@ -7,14 +7,15 @@ ghost use Rattle.cert_core.specs.Stops.{IsStopOf};
 ghost use Rattle.corner_view.specs.Changes.{scene_of};
 ghost use Rattle.corner_ends.specs.Runs.{FromHere, HasEnded, HasRunBetween};
 ghost use Rattle.corner_ends.specs.Shares.{IsConflictStop};
-ghost use Rattle.dual_run.specs.Leaving.{AreLowLines, MayLeave};
+ghost use Rattle.dual_run.specs.Leaving.{AreLowLines};
+ghost use Rattle.dual_run.specs.Turning.{IsNext};
 
-use crate::leaving::leaving;
-use crate::runs::exchange;
+use crate::leaving::{Leave, leaving};
+use crate::runs::step;
 use cert_core::RunStop;
 use corner_ends::{Trail, conflict_stop, is_costly};
 use corner_view::{Corner, Tableau};
-use problem_core::{Mark, RowName};
+use problem_core::RowName;
 use std::alloc::Global;
 
 // The mark that leaves next, and None at the end of the run.
@@ -22,11 +23,12 @@ fn next<T: Tableau>(
     alloc: Global,
     c: &Corner<T>,
     low: &mut Vec<RowName>,
-) -> Result<Option<Mark>, RunStop>
+    left: &mut usize,
+) -> Result<Option<Leave>, RunStop>
     requires columns { NoNegativeColumn c.now.problem c.now.marks }
     requires low { AreLowLines c.now.problem c.now.marks low.old.items }
     ensures low { AreLowLines c.now.problem c.now.marks low.new.items }
-    ensures leaves { IfOk result (λ found. IfSome found (MayLeave c.now.problem c.now.marks)) }
+    ensures leaves { IfOk result (λ found. IfSome found (IsNext c.now.problem c.now.marks)) }
     ensures values { IfOk result (λ found. IfNone found (NoNegativeValue c.now.problem c.now.marks)) }
     ensures costs { IfOk result (λ found. IfNone found (CostsAbove c.now.problem c.now.marks 0 → ⊥)) }
     ensures stop { IfErr result (IsConflictStop c.now.problem) }
@@ -35,7 +37,7 @@ fn next<T: Tableau>(
     if is_costly(c) {
         return Err(conflict_stop(alloc, c));
     }
-    Ok(leaving(c, low))
+    Ok(leaving(c, low, left))
 }
 
 // Takes all lines off the list, where no column is negative.
@@ -77,14 +79,15 @@ pub fn restore<T: Tableau>(
     c.show_corner(); // for the proof: what a corner keeps
     let mut trail = Trail::with_room(alloc, true, c, low.len())?;
     let mut low = low;
+    let mut left = low.len(); // all lines are to be looked at for turns
     loop {
-        let found = next(alloc, c, &mut low)?;
+        let found = next(alloc, c, &mut low, &mut left)?;
         match found {
             Some(leave) => {
                 if trail.is_spent(budget) {
                     return Err(trail.spent(c));
                 }
-                exchange(&mut trail, c, leave, &mut low)?;
+                step(&mut trail, c, leave, &mut low)?;
             }
             None => {
                 unlist_all(c);

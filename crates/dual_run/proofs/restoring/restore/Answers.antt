@@ -8,14 +8,14 @@ use Rattle.corner_ends.specs.Runs.{FromHere}
 use Rattle.corner_ends.proofs.Marks.{none_here, some_here}
 use Rattle.corner_ends.proofs.RunEnds.{best_end, run_made, stop_moved}
 use Rattle.corner_ends.proofs.Trails.{run_lawful, run_sound}
-use Rattle.dual_run.specs.Leaving.{MayLeave}
+use Rattle.dual_run.specs.Turning.{IsNext}
 use Rattle.dual_run.proofs.restoring.restore.Goals as goal
 
 pub next-requires-clause-columns : goal.next-requires-clause-columns
 next-requires-clause-columns g c = run_sound true c.loop-low.c.problem c.args.c.now.marks c.loop-low.c.marks c.loop-low.trail.swaps c.loop-low.invariant.trail.swapped
 
-pub exchange-requires-clause-columns : goal.exchange-requires-clause-columns
-exchange-requires-clause-columns g c = run_sound true c.loop-low.c.problem c.args.c.now.marks c.loop-low.c.marks c.loop-low.trail.swaps c.loop-low.invariant.trail.swapped
+pub step-requires-clause-columns : goal.step-requires-clause-columns
+step-requires-clause-columns g c = run_sound true c.loop-low.c.problem c.args.c.now.marks c.loop-low.c.marks c.loop-low.trail.swaps c.loop-low.invariant.trail.swapped
 
 pub unlist_all-requires : goal.unlist_all-requires
 unlist_all-requires g c = run_sound true c.loop-low.c.problem c.args.c.now.marks c.loop-low.c.marks c.loop-low.trail.swaps c.loop-low.invariant.trail.swapped
@@ -38,14 +38,14 @@ returns-then-is_spent-clause-stop g c =
     let least = c.is_spent.ensures.yes c.if-is_spent.true in
     let most = c.loop-low.invariant.few in
     let full : length c.loop-low.trail.swaps ≡ c.args.budget = omega (arith, least, most) in
-    let may = some_here c.in_ok-found.found (MayLeave c.loop-low.c.problem c.loop-low.c.marks) c.in-Some.leave c.in_ok-found.ensures.leaves c.in-Some.is in
+    let may = some_here c.in_ok-found.found (IsNext c.loop-low.c.problem c.loop-low.c.marks) c.in-Some.leave c.in_ok-found.ensures.leaves c.in-Some.is in
     stop_moved true c.loop-low.c.problem c.args.c.now.problem c.args.c.now.marks c.args.c.now.marks c.args.budget c.spent.result c.loop-low.invariant.problem refl
     (subst (λ (n : ℕ). IsStopOf true c.loop-low.c.problem c.loop-low.c.problem.rows (FromHere c.args.c.now.marks) n c.spent.result) full
-    (c.spent.ensures true c.args.c.now.marks c.loop-low.invariant.trail may.no_end))
+    (c.spent.ensures true c.args.c.now.marks c.loop-low.invariant.trail may.may.no_end))
 
-pub returns-in_err-exchange-in-Some-clause-stop : goal.returns-in_err-exchange-in-Some-clause-stop
-returns-in_err-exchange-in-Some-clause-stop g c =
+pub returns-in_err-step-in-Some-clause-stop : goal.returns-in_err-step-in-Some-clause-stop
+returns-in_err-step-in-Some-clause-stop g c =
     let short : length c.loop-low.trail.swaps < c.args.budget = c.is_spent.ensures.no c.if-is_spent.false in
-    let p = err_from_is_err_and c.from_residual-in_err-exchange-in-Some.result c.from_residual-in_err-exchange-in-Some.ensures.1 in
+    let p = err_from_is_err_and c.from_residual-in_err-step-in-Some.result c.from_residual-in_err-step-in-Some.ensures.1 in
     rw (p.1, p.2)
-    (stop_moved true c.loop-low.c.problem c.args.c.now.problem c.args.c.now.marks c.args.c.now.marks c.args.budget c.in_err-exchange-in-Some.field-0.0 c.loop-low.invariant.problem refl (c.in_err-exchange-in-Some.ensures.stop c.args.c.now.marks c.loop-low.invariant.trail c.args.budget short))
+    (stop_moved true c.loop-low.c.problem c.args.c.now.problem c.args.c.now.marks c.args.c.now.marks c.args.budget c.in_err-step-in-Some.field-0.0 c.loop-low.invariant.problem refl (c.in_err-step-in-Some.ensures.stop c.args.c.now.marks c.loop-low.invariant.trail c.args.budget short))

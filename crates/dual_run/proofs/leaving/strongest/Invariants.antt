@@ -1,7 +1,7 @@
 use Rattle.std.proofs.Common.{◌≡◌, ◌≤◌, length, IfSome, IfNone}
 use Rattle.dual_run.specs.Leaving.{AreLowLines}
 use Rattle.dual_run.specs.FoundLows.{IsFoundLow}
-use Rattle.dual_run.proofs.leaving.leaving.Given as goal
+use Rattle.dual_run.proofs.leaving.strongest.Given as goal
 
 abbrev pub invariant-loop-at : goal.invariant-loop-at
 invariant-loop-at g l = record {

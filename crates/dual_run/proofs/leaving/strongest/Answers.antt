@@ -2,7 +2,7 @@ use Rattle.std.proofs.Common.{rules, ◌≡◌, length, arith, sym}
 use Rattle.corner_ends.proofs.Marks.{none_here}
 use Rattle.dual_run.proofs.Lows.{no_low_left, sorted}
 use Rattle.dual_run.proofs.Names.{no_name}
-use Rattle.dual_run.proofs.leaving.leaving.Goals as goal
+use Rattle.dual_run.proofs.leaving.strongest.Goals as goal
 
 pub loop-at-init : goal.loop-at-init
 loop-at-init g c =
