@@ -4,3 +4,4 @@ pub mod Attributes
 pub mod Additions
 pub mod Safety
 pub mod LowMarks
+pub mod KnownJoins

@@ -13,7 +13,7 @@ ghost use Rattle.corner_view.specs.AddStops.{AllSumsFit, IsAddStop};
 ghost use Rattle.corner_view.specs.Changes.{IsAsBefore, IsRewound};
 ghost use Rattle.corner_view.specs.Stops.{IsUnfitStop};
 ghost use Rattle.corner.specs.Settled.{IsSettledAt, IsSettledBy};
-ghost use Rattle.corner_shifts.specs.Astray.{NoneGoesAstray};
+ghost use Rattle.corner_shifts.specs.Astray.{GoOnlyListed, NoneGoesAstray};
 ghost use Rattle.corner.specs.Known.{AreKnown};
 ghost use Rattle.corner_table.specs.declared.table.TheConstants.{LEVELS};
 ghost use Rattle.corner_laws.specs.Lifts.{with_rows};
@@ -28,7 +28,7 @@ ghost use Rattle.corner_table.specs.Histories.{AreAlike, lists_before};
 ghost use Rattle.corner_table.specs.Invariants.{IsConsistent, IsEarlier, names_of, seen_of, view_of};
 ghost use Rattle.corner_table.specs.Kept.{HasSlotsLeft};
 
-use crate::known::{Known, forget_known, nothing_known, shift_known, stand_known};
+use crate::known::{Known, forget_for_join, forget_known, nothing_known, shift_known, stand_known};
 use crate::lows::low_mark;
 use crate::safe::{clear_safe, is_required, is_safe, note};
 use cert_core::RunStop;
@@ -37,6 +37,7 @@ use corner_joins::{join_all, push_attr};
 use corner_leaving::{Leaver, leaver_of, left_level, put_left, take_attr};
 use corner_orders::put_front;
 use corner_packing::pack;
+use corner_shifts::list_exchanged;
 use corner_table::{
     Listed, Table, attr_slot, back, forget, is_crowded, is_level, level_slot, line_slot, mark,
     marks_with, moved_attrs, name_at, new_table, other, rewind, slot_at,
@@ -113,6 +114,7 @@ fn exchange_lines(table: &mut Table, listed: &mut Listed, pair: Pair) -> Result<
     ensures before { lists_before table.new ≡ lists_before table.old }
     ensures problem { OnOk result (problem_of (lists_of table.new) ≡ problem_of (lists_of table.old)) }
     ensures marks { OnOk result (AreMarksBy (lists_of table.old) pair (lists_of table.new)) }
+    ensures stays { OnOk result (GoOnlyListed (lists_of table.old) pair.enter (lists_of table.new)) }
     ensures stop { IfErr result (IsPairStop (lists_of table.old) pair) }
     ensures same { IfErr result (IsAsBefore (view_of table.old listed.old) (view_of table.new listed.new)) }
 {
@@ -134,6 +136,7 @@ fn turn_line(table: &mut Table, listed: &mut Listed, line: u32, side: Side) -> R
     ensures before { lists_before table.new ≡ lists_before table.old }
     ensures problem { OnOk result (problem_of (lists_of table.new) ≡ problem_of (lists_of table.old)) }
     ensures marks { OnOk result (AreMarksTurned (lists_of table.old) line side (lists_of table.new)) }
+    ensures stays { OnOk result (NoneGoesAstray (lists_of table.old) (lists_of table.new)) }
     ensures stop { IfErr result (IsTurnStop (lists_of table.old) line side) }
     ensures same { IfErr result (IsAsBefore (view_of table.old listed.old) (view_of table.new listed.new)) }
 {
@@ -157,6 +160,7 @@ fn exchange_settled(table: &mut Table, listed: &mut Listed, pair: Pair) -> Resul
     ensures before { lists_before table.new ≡ lists_before table.old }
     ensures problem { OnOk result (problem_of (lists_of table.new) ≡ problem_of (lists_of table.old)) }
     ensures marks { OnOk result (AreMarksBy (lists_of table.old) pair (lists_of table.new)) }
+    ensures stays { OnOk result (GoOnlyListed (lists_of table.old) pair.enter (lists_of table.new)) }
     ensures stop { IfErr result (IsPairStop (lists_of table.old) pair) }
     ensures same { IfErr result (IsAsBefore (view_of table.old listed.old) (view_of table.new listed.new)) }
 {
@@ -290,6 +294,100 @@ fn turn_safe(
     turn_stay(table, listed, known, line, side)
 }
 
+// Exchanges an outside line's mark for an inside line's, and lists the stays that move.
+fn exchange_known(
+    table: &mut Table,
+    listed: &mut Listed,
+    known: &mut Known,
+    pair: Pair,
+) -> Result<(), TableStop>
+    requires consistent { IsConsistent table.old listed.old }
+    requires marked { 0 < length table.old.rows.before }
+    requires pair { CanExchange (lists_of table.old) pair }
+    requires known { AreKnown (lists_of table.old) known.old }
+    ensures consistent { IsConsistent table.new listed.new }
+    ensures before { lists_before table.new ≡ lists_before table.old }
+    ensures problem { OnOk result (problem_of (lists_of table.new) ≡ problem_of (lists_of table.old)) }
+    ensures marks { OnOk result (AreMarksBy (lists_of table.old) pair (lists_of table.new)) }
+    ensures known { AreKnown (lists_of table.new) known.new }
+    ensures stop { IfErr result (IsPairStop (lists_of table.old) pair) }
+    ensures same { IfErr result (IsAsBefore (view_of table.old listed.old) (view_of table.new listed.new)) }
+{
+    clear_safe(&mut known.safe);
+    list_exchanged(table, &mut known.astray, pair.enter);
+    match exchange_lines(table, listed, pair) {
+        Ok(()) => Ok(()),
+        Err(stop) => {
+            forget_known(known);
+            Err(stop)
+        }
+    }
+}
+
+// Exchanges an outside line's mark for an inside line's where no column is negative after it, and lists the
+// stays that move.
+fn settle_known(
+    table: &mut Table,
+    listed: &mut Listed,
+    known: &mut Known,
+    pair: Pair,
+) -> Result<(), TableStop>
+    requires consistent { IsConsistent table.old listed.old }
+    requires marked { 0 < length table.old.rows.before }
+    requires pair { CanExchange (lists_of table.old) pair }
+    requires settled { IsSettledBy (lists_of table.old) pair }
+    requires known { AreKnown (lists_of table.old) known.old }
+    ensures consistent { IsConsistent table.new listed.new }
+    ensures before { lists_before table.new ≡ lists_before table.old }
+    ensures problem { OnOk result (problem_of (lists_of table.new) ≡ problem_of (lists_of table.old)) }
+    ensures marks { OnOk result (AreMarksBy (lists_of table.old) pair (lists_of table.new)) }
+    ensures known { AreKnown (lists_of table.new) known.new }
+    ensures stop { IfErr result (IsPairStop (lists_of table.old) pair) }
+    ensures same { IfErr result (IsAsBefore (view_of table.old listed.old) (view_of table.new listed.new)) }
+{
+    clear_safe(&mut known.safe);
+    list_exchanged(table, &mut known.astray, pair.enter);
+    match exchange_settled(table, listed, pair) {
+        Ok(()) => Ok(()),
+        Err(stop) => {
+            forget_known(known);
+            Err(stop)
+        }
+    }
+}
+
+// Takes a line's other mark inside. No stay moves.
+fn turn_known(
+    table: &mut Table,
+    listed: &mut Listed,
+    known: &mut Known,
+    line: u32,
+    side: Side,
+) -> Result<(), TableStop>
+    requires consistent { IsConsistent table.old listed.old }
+    requires marked { 0 < length table.old.rows.before }
+    requires turn { CanTurnTo (lists_of table.old) line side }
+    requires known { AreKnown (lists_of table.old) known.old }
+    ensures consistent { IsConsistent table.new listed.new }
+    ensures before { lists_before table.new ≡ lists_before table.old }
+    ensures problem { OnOk result (problem_of (lists_of table.new) ≡ problem_of (lists_of table.old)) }
+    ensures marks { OnOk result (AreMarksTurned (lists_of table.old) line side (lists_of table.new)) }
+    ensures known { AreKnown (lists_of table.new) known.new }
+    ensures stop { IfErr result (IsTurnStop (lists_of table.old) line side) }
+    ensures same { IfErr result (IsAsBefore (view_of table.old listed.old) (view_of table.new listed.new)) }
+{
+    match turn_line(table, listed, line, side) {
+        Ok(()) => {
+            clear_safe(&mut known.safe);
+            Ok(())
+        }
+        Err(stop) => {
+            forget_known(known);
+            Err(stop)
+        }
+    }
+}
+
 // Takes a row out whose mark is inside.
 fn take_row(table: &mut Table, listed: &mut Listed, leaver: Leaver) -> Result<(), TableStop>
     requires consistent { IsConsistent table.old listed.old }
@@ -349,6 +447,8 @@ fn join_attr(
     ensures marks { OnOk result (marks_at (lists_of table.new) ≡ marks_at (lists_of table.old)) }
     ensures names { OnOk result (names_of (lists_of table.new) listed.new
         ≡ names_of (lists_of table.old) listed.old) }
+    ensures stays { OnOk result (HasSlotsLeft (lists_of table.old)
+        → NoneGoesAstray (lists_of table.old) (lists_of table.new)) }
     ensures before { lists_before table.new ≡ lists_before table.old }
     ensures alike { AreAlike table.new }
 {
@@ -366,6 +466,8 @@ fn join_rows(table: &mut Table, listed: &mut Listed, rows: &[Row]) -> Result<(),
         ≡ with_rows rows.now (problem_of (lists_of table.old))) }
     ensures marks { OnOk result (BeginsWith (problem_of (lists_of table.new)) (marks_at (lists_of table.old))
         rows.now [] (marks_at (lists_of table.new))) }
+    ensures stays { OnOk result (HasSlotsLeft (lists_of table.old)
+        → NoneGoesAstray (lists_of table.old) (lists_of table.new)) }
     ensures fits { OnOk result (AllSumsFit (seen_of (lists_of table.old)) rows.now) }
     ensures before { lists_before table.new ≡ lists_before table.old }
     ensures alike { AreAlike table.new }
@@ -524,17 +626,22 @@ impl Tableau for Corner {
     }
 
     fn swap(&mut self, enter: Mark, leave: Mark) -> Result<(), TableStop> {
-        forget_known(&mut self.known);
         let line = line_slot(&self.table, enter.row);
         if are_of_line(enter, leave) {
-            return turn_line(&mut self.table, &mut self.listed, line, enter.side);
+            return turn_known(
+                &mut self.table,
+                &mut self.listed,
+                &mut self.known,
+                line,
+                enter.side,
+            );
         }
         let pair = Pair {
             enter: line,
             side: enter.side,
             leave: line_slot(&self.table, leave.row),
         };
-        exchange_lines(&mut self.table, &mut self.listed, pair)
+        exchange_known(&mut self.table, &mut self.listed, &mut self.known, pair)
     }
 
     fn swap_settled(&mut self, enter: Mark, leave: Mark) -> Result<(), TableStop> {
@@ -548,20 +655,20 @@ impl Tableau for Corner {
                 enter.side,
             );
         }
-        forget_known(&mut self.known);
         let pair = Pair {
             enter: line,
             side: enter.side,
             leave: line_slot(&self.table, leave.row),
         };
-        exchange_settled(&mut self.table, &mut self.listed, pair)
+        settle_known(&mut self.table, &mut self.listed, &mut self.known, pair)
     }
 
     fn add_attr(&mut self, attr: u32, target: Frac) -> Result<(), OutOfMemory> {
-        forget_known(&mut self.known);
+        forget_for_join(&self.table, &mut self.known);
         match join_attr(&mut self.table, &mut self.listed, attr, target) {
             Ok(()) => Ok(()),
             Err(OutOfMemory) => {
+                forget_known(&mut self.known);
                 take_back(&mut self.table, &mut self.listed);
                 Err(OutOfMemory)
             }
@@ -569,10 +676,11 @@ impl Tableau for Corner {
     }
 
     fn add_rows(&mut self, rows: &[Row]) -> Result<(), RunStop> {
-        forget_known(&mut self.known);
+        forget_for_join(&self.table, &mut self.known);
         match join_rows(&mut self.table, &mut self.listed, rows) {
             Ok(()) => Ok(()),
             Err(stop) => {
+                forget_known(&mut self.known);
                 take_back(&mut self.table, &mut self.listed);
                 Err(stop)
             }

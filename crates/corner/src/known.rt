@@ -1,11 +1,13 @@
 // What is known of the lists, so that it is not looked up again.
-ghost use Rattle.std.specs.Prelude.{◌≡◌, [], length, IfErr, OnOk};
+ghost use Rattle.std.specs.Prelude.{◌≡◌, [], length, true, IfErr, OnOk};
 ghost use Rattle.frac_core.specs.Fraction as fraction;
 ghost use Rattle.corner_table.specs.Histories.{AreAlike, HasSameHistory, lists_before};
-ghost use Rattle.corner_table.specs.Kept.{IsKept};
+ghost use Rattle.corner_table.specs.Kept.{HasSlotsLeft, IsKept};
 ghost use Rattle.corner_table.specs.Tables.{Lists, lists_of, problem_of};
 ghost use Rattle.corner.specs.Known.{AreKnown};
+ghost use Rattle.corner.specs.Safe.{AreSafe};
 ghost use Rattle.corner_view.specs.Changes.{IsNear};
+ghost use Rattle.corner_shifts.specs.Astray.{IsAstray};
 ghost use Rattle.corner_shifts.specs.Shifting.{IsShifted, IsShiftedStop};
 ghost use Rattle.corner_shifts.specs.Stood.{AreFirstStood};
 
@@ -13,7 +15,7 @@ use crate::safe::{Safe, clear_safe, no_safe};
 use corner_shifts::{
     Astray, all_stand, forget_astray, list_astray, none_astray, shift_row, stand_astray,
 };
-use corner_table::{Table, line_slot};
+use corner_table::{Table, is_crowded, line_slot};
 use frac_core::{Frac, OutOfMemory};
 use problem_core::{RowName, TableStop};
 use std::alloc::Global;
@@ -41,6 +43,21 @@ pub(crate) fn forget_known(known: &mut Known)
 {
     clear_safe(&mut known.safe);
     forget_astray(&mut known.astray);
+}
+
+/// Lets be unknown what a join may change: which lines are safe to turn, and where slots of nothing go first,
+/// which stays are astray.
+pub(crate) fn forget_for_join(table: &Table, known: &mut Known)
+    requires kept { IsKept (lists_of table.now) }
+    requires known { AreKnown (lists_of table.now) known.old }
+    ensures safe { (t : Lists) → AreSafe t known.new.safe }
+    ensures left { known.new.astray.is_known ≡ true → HasSlotsLeft (lists_of table.now) }
+    ensures astray { IsAstray (lists_of table.now) known.new.astray }
+{
+    clear_safe(&mut known.safe);
+    if is_crowded(table) {
+        forget_astray(&mut known.astray);
+    }
 }
 
 /// Gives a row this constant, and lists the stays that move.

@@ -51,8 +51,9 @@
 //! and `corner_orders` to that with another order of stays. `corner_packing` takes slots of nothing out.
 //!
 //! To read: `known` keeps what need not be looked up again: with `safe` the lines that are known to be safe
-//! to turn, and the stays that may not be at their targets; `lows` finds a line's mark with a negative value;
-//! and `corner` is what callers use.
+//! to turn, and the stays that may not be at their targets. These are still known after changed constants,
+//! exchanges and joins, but not where something leaves, after another order or a return to a mark. `lows`
+//! finds a line's mark with a negative value; and `corner` is what callers use.
 #![tactic(auto)]
 
 mod corner;

@@ -50,7 +50,7 @@ all_first t ws i old new over first = record {
 
 -- ---- a row's constant changes
 
-stay-there : (t : Lists) (i : ℕ) (s : Stay) → AreSlots t → i < length t.stays
+pub stay-there : (t : Lists) (i : ℕ) (s : Stay) → AreSlots t → i < length t.stays
     → IsStayOwner (slot_at t (stay_slot t (slice_index_or t.stays i s).attr)).owner × (LEVELS ≤ stay_slot t (slice_index_or t.stays i s).attr)
 stay-there t i s slots lt =
     let l = stay_line (IsLineSlot t) (problem_of t) slots.lines i s lt in

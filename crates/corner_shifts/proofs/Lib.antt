@@ -1,3 +1,4 @@
 pub mod Stays
 pub mod Shifts
 pub mod AstrayStays
+pub mod ExchangedStays

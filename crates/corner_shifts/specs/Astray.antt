@@ -39,3 +39,18 @@ pub record AreMovedListed (t : Lists) (line : ℕ) (old new : Astray) : Type 0 w
 -- the same, if it is known what may be astray
 abbrev pub ListsAstray : Lists → ℕ → Astray → Astray → Type 0
 ListsAstray t line old new = new.is_known ≡ true → AreMovedListed t line old new
+
+-- ---- what is listed where a line enters
+
+-- its slot too, if it is a stay's, and those stays' lines in whose rows it stands
+pub record AreExchangedListed (t : Lists) (line : ℕ) (old new : Astray) : Type 0 where
+  pub moved : AreMovedListed t line old new
+  pub own : IsStayOwner (slot_at t line).owner → Contains new.lines line
+
+-- the same, if it is known what may be astray
+abbrev pub ListsExchanged : Lists → ℕ → Astray → Astray → Type 0
+ListsExchanged t line old new = new.is_known ≡ true → AreExchangedListed t line old new
+
+-- where the line has entered, no stay goes astray but those that are listed so
+abbrev pub GoOnlyListed : Lists → ℕ → Lists → Type 0
+GoOnlyListed t line u = (old new : Astray) → ListsExchanged t line old new → IsAstray t old → IsAstray u new

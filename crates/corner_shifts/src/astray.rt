@@ -3,6 +3,7 @@ ghost use Rattle.std.specs.Prelude.{◌≡◌, ◌<◌, [], false, length, All, 
 ghost use Rattle.corner_table.specs.Kept.{AreSlots};
 ghost use Rattle.corner_table.specs.Tables.{Lists, lists_of};
 ghost use Rattle.corner_shifts.specs.Astray.{AreAstray, AreStaysListed, IsAstray, IsStayListed, ListsAstray};
+ghost use Rattle.corner_shifts.specs.Astray.{ListsExchanged};
 
 use corner_table::{Listed, Table, is_stay};
 use frac_core::OutOfMemory;
@@ -83,5 +84,19 @@ pub fn list_astray(table: &Table, astray: &mut Astray, line: u32)
     let slots = table.matrix.column(line);
     if are_many(table, slots.len()) || list_slots(table, &mut astray.lines, slots).is_err() {
         forget_astray(astray);
+    }
+}
+
+/// Lists the stays' lines that an exchange may move, before it is made: the line that enters, and those in
+/// whose rows it stands.
+pub fn list_exchanged(table: &Table, astray: &mut Astray, line: u32)
+    requires slots { AreSlots (lists_of table.now) }
+    requires within { line < length table.now.slots.items }
+    ensures { ListsExchanged (lists_of table.now) line astray.old astray.new }
+{
+    list_astray(table, astray, line);
+    match list_slot(table, &mut astray.lines, line) {
+        Ok(()) => {}
+        Err(OutOfMemory) => forget_astray(astray),
     }
 }

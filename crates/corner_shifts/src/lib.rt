@@ -2,7 +2,8 @@
 //!
 //! [`shift_row`] gives a row another constant, and all values and costs what they have with it. Values may
 //! turn negative, and stays move away from their targets. [`list_astray`] lists the stays that a shift of a
-//! line may move ([`Astray`]), and [`stand_astray`] makes the attributes' values the targets of these stays.
+//! line may move ([`Astray`]), [`list_exchanged`] those that an exchange may move in which a line enters, and
+//! [`stand_astray`] makes the attributes' values the targets of these stays.
 //!
 //! ```
 //! let mut astray = none_astray(alloc);          // each stay is at its target
@@ -23,6 +24,6 @@ mod astray;
 mod shifting;
 mod standing;
 
-pub use astray::{Astray, all_stand, forget_astray, list_astray, none_astray};
+pub use astray::{Astray, all_stand, forget_astray, list_astray, list_exchanged, none_astray};
 pub use shifting::shift_row;
 pub use standing::stand_astray;

@@ -45,7 +45,7 @@ use Rattle.corner_table.proofs.Readings.SlotFacts.{named_slot}
 use Rattle.corner_joins.proofs.Additions.PartFacts.{part_kept}
 use Rattle.corner_joins.proofs.Additions.RowStops.{next_rows, this_row}
 use Rattle.corner_joins.proofs.Costs.CostEnds.{cost_joined_kept, held_home, joining_below, joining_held}
-use Rattle.corner_joins.proofs.Costs.CostKept.{cost_marks, cost_priority, cost_priority_here, cost_row, cost_side, high}
+use Rattle.corner_joins.proofs.Costs.CostKept.{cost_marks, cost_priority, cost_priority_here, cost_row, cost_side, cost_standing, high}
 use Rattle.frac_core.proofs.Lists.{take-drop as take_drop}
 
 -- ---- the next row
@@ -114,6 +114,9 @@ next-row-same t u r line kept j c w up = ap (λ (v : Lists). row_at v w) c.lists
 next-side-same : (t u : Lists) (r : Row) (line : ℕ) → IsPartlyKept t → IsJoining t r line → IsCostJoined t line u → (w : ℕ) → (standing_at u w).side ≡ (standing_at t w).side
 next-side-same t u r line kept j c w = ap (λ (v : Lists). (standing_at v w).side) c.lists ∙ cost_side t (home_at t line) c.change.row c.change.value c.unit w kept.slots (joining_below t r line kept j)
 
+next-value-same : (t u : Lists) (r : Row) (line : ℕ) → IsPartlyKept t → IsJoining t r line → IsCostJoined t line u → (w : ℕ) → LEVELS ≤ w → standing_at u w ≡ standing_at t w
+next-value-same t u r line kept j c w up = ap (λ (v : Lists). standing_at v w) c.lists ∙ cost_standing t (home_at t line) c.change.row c.change.value c.unit w (high (home_at t line) w (joining_below t r line kept j) up)
+
 part_row : (t : Lists) (w : ℕ) → IsPartlyKept t → IsKeptRow (row_at t w)
 part_row t w kept = elim (cases_lt w (length t.matrix)) [
   | inl lt ↦ kept.matrix w [] lt
@@ -141,6 +144,7 @@ one_joined done t0 t u listed0 old new r kept after j c listed high_done up h =
       marks = joined-marks t u r (line_slot t (Held r.id)) kept j c ∙ h.marks;
       lines = λ w high. next-row-same t u r (line_slot t (Held r.id)) kept j c w high ∙ h.lines w high;
       sides = λ w. next-side-same t u r (line_slot t (Held r.id)) kept j c w ∙ h.sides w;
+      values = λ w high. next-value-same t u r (line_slot t (Held r.id)) kept j c w high ∙ h.values w high;
       keeps = λ d i. listed.keeps d (h.keeps d i);
       listed = All-push (λ s. IsLineListed u new (line_slot u (Held s.id))) done r
           (λ i x lt. subst (λ (f : RowName → ℕ). IsLineListed u new (f (Held (get_or done i x).id))) (sym same)

@@ -256,6 +256,7 @@ pub record AreCostsJoined (rows : List Row) (t : Lists) (old : List ℕ) (u : Li
     pub marks : marks_at u ≡ marks_at t
     pub lines : (w : ℕ) → LEVELS ≤ w → row_at u w ≡ row_at t w
     pub sides : (w : ℕ) → (standing_at u w).side ≡ (standing_at t w).side
+    pub values : (w : ℕ) → LEVELS ≤ w → standing_at u w ≡ standing_at t w
     pub keeps : (c : ℕ) → Contains old c → Contains new c
     pub listed : All (λ r. IsLineListed u new (line_slot u (Held r.id))) rows
     pub others : (c : ℕ) → Contains new c → Contains old c ⊎ IsLineAt t c

@@ -1,5 +1,8 @@
+use Rattle.std.proofs.Common.{ap}
 use Rattle.corner_exchange.specs.Swaps.Exchanges.{IsExchangeOf}
 use Rattle.corner_table.specs.Tables.{lists_of}
+use Rattle.corner_writings.specs.declared.levels.Pair.{Pair}
+use Rattle.corner_shifts.proofs.ExchangedStays.{exchanged_stays}
 use Rattle.corner.proofs.Swaps.NextConsistent.{exchanged_consistent, exchanged_seen, marked_next}
 use Rattle.corner.proofs.corner.exchange_lines.Goals as goal
 
@@ -17,3 +20,8 @@ returns-in-Ok-put_exchange-clause-problem c = (exchanged_seen (lists_of c.args.t
 
 pub returns-in-Ok-put_exchange-clause-marks : goal.returns-in-Ok-put_exchange-clause-marks
 returns-in-Ok-put_exchange-clause-marks c = λ s are. c.in-Ok-put_exchange.ensures.marks s (c.in-Ok.ensures.ok.1 s are)
+
+pub returns-in-Ok-put_exchange-clause-stays : goal.returns-in-Ok-put_exchange-clause-stays
+returns-in-Ok-put_exchange-clause-stays c =
+    exchanged_stays (lists_of c.args.table.now) (lists_of c.put_exchange.new.table) c.in-Ok.made c.requires.pair.swap c.args.pair.enter c.requires.pair.kept
+    (c.in-Ok.ensures.ok.1 c.requires.pair.swap c.requires.pair.is) (ap (λ (p : Pair). p.enter) c.in-Ok.ensures.ok.0) c.in-Ok-put_exchange.ensures.lists

@@ -1,7 +1,9 @@
-use Rattle.std.proofs.Common.{All, subst, sym}
+use Rattle.std.proofs.Common.{All, ap, subst, sym}
 use Rattle.corner_exchange.specs.Swaps.Exchanges.{IsExchangeOf}
 use Rattle.corner_table.specs.Invariants.{IsEarlier}
 use Rattle.corner_table.specs.Tables.{lists_of}
+use Rattle.corner_writings.specs.declared.levels.Pair.{Pair}
+use Rattle.corner_shifts.proofs.ExchangedStays.{exchanged_stays}
 use Rattle.corner.proofs.Swaps.NextConsistent.{exchanged_seen, marked_next}
 use Rattle.corner.proofs.Swaps.SettledNext.{exchanged_settled}
 use Rattle.corner.proofs.corner.exchange_settled.Goals as goal
@@ -27,3 +29,8 @@ put_unlisted-requires-clause-made c = (c.requires.pair.swap, c.in-Ok.ensures.ok.
 
 pub rewound-requires-clause-earlier : goal.rewound-requires-clause-earlier
 rewound-requires-clause-earlier c = subst (All IsEarlier) (sym c.in-Err-put_unlisted.ensures.before) c.requires.consistent.before
+
+pub returns-in-Ok-put_unlisted-clause-stays : goal.returns-in-Ok-put_unlisted-clause-stays
+returns-in-Ok-put_unlisted-clause-stays c =
+    exchanged_stays (lists_of c.args.table.now) (lists_of c.put_unlisted.new.table) c.in-Ok.made c.requires.pair.swap c.args.pair.enter c.requires.pair.kept
+    (c.in-Ok.ensures.ok.1 c.requires.pair.swap c.requires.pair.is) (ap (λ (p : Pair). p.enter) c.in-Ok.ensures.ok.0) c.in-Ok-put_unlisted.ensures.lists

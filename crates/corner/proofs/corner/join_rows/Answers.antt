@@ -8,7 +8,10 @@ use Rattle.problem_core.specs.Layout.{Problem}
 use Rattle.corner_laws.specs.Lifts.{with_rows}
 use Rattle.corner_view.specs.AddStops.{IsAddStop}
 use Rattle.corner_table.specs.Invariants.{seen_of}
+use Rattle.corner_table.specs.declared.table.Table.{Table}
 use Rattle.corner_table.specs.Tables.{lists_of, marks_at, problem_of}
+use Rattle.corner_shifts.specs.Astray.{NoneGoesAstray}
+use Rattle.corner.proofs.KnownJoins.{rows_stays}
 use Rattle.corner.proofs.Additions.AddedConsistent.{added_consistent}
 use Rattle.corner.proofs.Additions.PackedJoins.{fits_as, joined_begins, joined_problem, stop_as}
 use Rattle.corner.proofs.corner.join_rows.Goals as goal
@@ -56,3 +59,10 @@ returns-clause-stop c =
     err_all c.join_all.result _ (IsAddStop (seen_of (lists_of c.args.table.now)) c.args.rows.now)
     (λ stop. stop_as (lists_of c.args.table.now) (lists_of c.make_room.new.table) c.args.rows.now stop c.in_ok-make_room.ensures.problem c.in_ok-make_room.ensures.marks)
     c.join_all.ensures.stop
+
+pub returns-clause-stays : goal.returns-clause-stays
+returns-clause-stays c =
+    on_ok_weaker c.join_all.result
+    (λ joined left. subst (λ (t : Table). NoneGoesAstray (lists_of t) (lists_of c.join_all.new.table)) (c.make_room.ensures.unmoved left)
+    (rows_stays (lists_of c.make_room.new.table) (lists_of c.join_all.new.table) c.args.rows.now c.make_room.new.listed c.join_all.new.listed c.in_ok-make_room.ensures.consistent.kept.slots joined))
+    c.join_all.ensures.joined

@@ -10,7 +10,13 @@ pub join_rows-requires-clause-values : goal.join_rows-requires-clause-values
 join_rows-requires-clause-values c = subst (λ (v : CornerView). NoNegativeValue v.problem v.marks) (sym c.self.view_is) c.requires.values
 
 pub invariant_of-self : goal.invariant_of-self
-invariant_of-self c = (c.in-Ok.ensures.consistent, c.forget_known.ensures (lists_of c.join_rows.new.table))
+invariant_of-self c = (
+  c.in-Ok.ensures.consistent,
+  (
+    c.forget_for_join.ensures.safe (lists_of c.join_rows.new.table),
+    λ known. c.in-Ok.ensures.stays (c.forget_for_join.ensures.left known) c.forget_for_join.new.known.astray.lines (c.forget_for_join.ensures.astray known),
+  ),
+)
 
 pub returns-in-Err-clause-stop : goal.returns-in-Err-clause-stop
 returns-in-Err-clause-stop c =

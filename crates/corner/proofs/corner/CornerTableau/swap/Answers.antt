@@ -29,15 +29,15 @@ pub line_slot-requires-clause-row : goal.line_slot-requires-clause-row
 line_slot-requires-clause-row c = mark_named (problem_of (lists_of c.self.inside.table)) c.args.leave
     (in_mark (lists_of c.self.inside.table) c.args.leave c.self.invariant.0.kept (subst (λ (v : CornerView). IsIn (place c.args.leave) v.marks) (sym c.self.view_is) c.requires.leave))
 
-turns : (c : goal.After-turn_line) → IsTurn (lists_of c.self.inside.table) c.line_slot-line.result c.args.enter.side (record { enter = c.args.enter; leave = c.args.leave })
+turns : (c : goal.After-turn_known) → IsTurn (lists_of c.self.inside.table) c.line_slot-line.result c.args.enter.side (record { enter = c.args.enter; leave = c.args.leave })
 turns c =
     let same : c.args.enter.row ≡ c.args.leave.row = c.are_of_line.ensures.0 c.if-are_of_line.true in
     swap_turn (lists_of c.self.inside.table) c.args.enter c.args.leave c.line_slot-line.result c.self.invariant.0.kept
     (subst (λ (v : CornerView). IsOutside v.problem v.marks c.args.enter) (sym c.self.view_is) c.requires.enter)
     (subst (λ (v : CornerView). IsIn (place c.args.leave) v.marks) (sym c.self.view_is) c.requires.leave) same c.line_slot-line.ensures.value
 
-pub turn_line-requires-clause-turn : goal.turn_line-requires-clause-turn
-turn_line-requires-clause-turn c =
+pub turn_known-requires-clause-turn : goal.turn_known-requires-clause-turn
+turn_known-requires-clause-turn c =
     let same : c.args.enter.row ≡ c.args.leave.row = c.are_of_line.ensures.0 c.if-are_of_line.true in record {
       kept = c.self.invariant.0.kept;
       swap = record { enter = c.args.enter; leave = c.args.leave };
@@ -48,10 +48,10 @@ turn_line-requires-clause-turn c =
 
 pub returns-then-are_of_line-clause-marks : goal.returns-then-are_of_line-clause-marks
 returns-then-are_of_line-clause-marks c =
-    ok-with c.turn_line.result (AreMarksTurned (lists_of c.self.inside.table) c.line_slot-line.result c.args.enter.side (lists_of c.turn_line.new.table))
-    (SameMarks (marks_at (lists_of c.turn_line.new.table)) (exchanged (record { enter = c.args.enter; leave = c.args.leave }) c.args.self.now.marks))
-    (λ h. subst (λ (v : CornerView). SameMarks (marks_at (lists_of c.turn_line.new.table)) (exchanged (record { enter = c.args.enter; leave = c.args.leave }) v.marks)) c.self.view_is (h (record { enter = c.args.enter; leave = c.args.leave }) (turns c)))
-    c.turn_line.ensures.marks
+    ok-with c.turn_known.result (AreMarksTurned (lists_of c.self.inside.table) c.line_slot-line.result c.args.enter.side (lists_of c.turn_known.new.table))
+    (SameMarks (marks_at (lists_of c.turn_known.new.table)) (exchanged (record { enter = c.args.enter; leave = c.args.leave }) c.args.self.now.marks))
+    (λ h. subst (λ (v : CornerView). SameMarks (marks_at (lists_of c.turn_known.new.table)) (exchanged (record { enter = c.args.enter; leave = c.args.leave }) v.marks)) c.self.view_is (h (record { enter = c.args.enter; leave = c.args.leave }) (turns c)))
+    c.turn_known.ensures.marks
 
 pub returns-then-are_of_line-clause-exchange : goal.returns-then-are_of_line-clause-exchange
 returns-then-are_of_line-clause-exchange c =
@@ -64,11 +64,11 @@ returns-then-are_of_line-clause-exchange c =
 
 pub returns-then-are_of_line-clause-stop : goal.returns-then-are_of_line-clause-stop
 returns-then-are_of_line-clause-stop c =
-    err-with c.turn_line.result (IsTurnStop (lists_of c.self.inside.table) c.line_slot-line.result c.args.enter.side) (IsUnfitStop c.args.self.now.problem (exchanged (record { enter = c.args.enter; leave = c.args.leave }) c.args.self.now.marks))
+    err-with c.turn_known.result (IsTurnStop (lists_of c.self.inside.table) c.line_slot-line.result c.args.enter.side) (IsUnfitStop c.args.self.now.problem (exchanged (record { enter = c.args.enter; leave = c.args.leave }) c.args.self.now.marks))
     (λ e h. subst (λ (v : CornerView). IsUnfitStop v.problem (exchanged (record { enter = c.args.enter; leave = c.args.leave }) v.marks) e) c.self.view_is (h (record { enter = c.args.enter; leave = c.args.leave }) (turns c)))
-    c.turn_line.ensures.stop
+    c.turn_known.ensures.stop
 
-pairs : (c : goal.After-exchange_lines) → IsPair (lists_of c.self.inside.table) (record { enter = c.line_slot-line.result; side = c.args.enter.side; leave = c.line_slot.result }) (record { enter = c.args.enter; leave = c.args.leave })
+pairs : (c : goal.After-exchange_known) → IsPair (lists_of c.self.inside.table) (record { enter = c.line_slot-line.result; side = c.args.enter.side; leave = c.line_slot.result }) (record { enter = c.args.enter; leave = c.args.leave })
 pairs c =
     let ne : c.args.enter.row ≢ c.args.leave.row = λ e. not_both c.are_of_line.result (c.are_of_line.ensures.1 e) c.if-are_of_line.false in
     swap_pair (lists_of c.self.inside.table) c.args.enter c.args.leave c.line_slot-line.result c.line_slot.result c.self.invariant.0.kept
@@ -76,8 +76,8 @@ pairs c =
     (subst (λ (v : CornerView). IsIn (place c.args.leave) v.marks) (sym c.self.view_is) c.requires.leave)
     (subst (λ (v : CornerView). MovesWith v.problem v.marks c.args.enter (MarkOf c.args.leave)) (sym c.self.view_is) c.requires.moves) ne c.line_slot-line.ensures.value c.line_slot.ensures.value
 
-pub exchange_lines-requires-clause-pair : goal.exchange_lines-requires-clause-pair
-exchange_lines-requires-clause-pair c =
+pub exchange_known-requires-clause-pair : goal.exchange_known-requires-clause-pair
+exchange_known-requires-clause-pair c =
     let ne : c.args.enter.row ≢ c.args.leave.row = λ e. not_both c.are_of_line.result (c.are_of_line.ensures.1 e) c.if-are_of_line.false in record {
       kept = c.self.invariant.0.kept;
       swap = record { enter = c.args.enter; leave = c.args.leave };
@@ -89,10 +89,10 @@ exchange_lines-requires-clause-pair c =
 
 pub returns-clause-marks : goal.returns-clause-marks
 returns-clause-marks c =
-    ok-with c.exchange_lines.result (AreMarksBy (lists_of c.self.inside.table) (record { enter = c.line_slot-line.result; side = c.args.enter.side; leave = c.line_slot.result }) (lists_of c.exchange_lines.new.table))
-    (SameMarks (marks_at (lists_of c.exchange_lines.new.table)) (exchanged (record { enter = c.args.enter; leave = c.args.leave }) c.args.self.now.marks))
-    (λ h. subst (λ (v : CornerView). SameMarks (marks_at (lists_of c.exchange_lines.new.table)) (exchanged (record { enter = c.args.enter; leave = c.args.leave }) v.marks)) c.self.view_is (h (record { enter = c.args.enter; leave = c.args.leave }) (pairs c)))
-    c.exchange_lines.ensures.marks
+    ok-with c.exchange_known.result (AreMarksBy (lists_of c.self.inside.table) (record { enter = c.line_slot-line.result; side = c.args.enter.side; leave = c.line_slot.result }) (lists_of c.exchange_known.new.table))
+    (SameMarks (marks_at (lists_of c.exchange_known.new.table)) (exchanged (record { enter = c.args.enter; leave = c.args.leave }) c.args.self.now.marks))
+    (λ h. subst (λ (v : CornerView). SameMarks (marks_at (lists_of c.exchange_known.new.table)) (exchanged (record { enter = c.args.enter; leave = c.args.leave }) v.marks)) c.self.view_is (h (record { enter = c.args.enter; leave = c.args.leave }) (pairs c)))
+    c.exchange_known.ensures.marks
 
 pub returns-clause-exchange : goal.returns-clause-exchange
 returns-clause-exchange c =
@@ -105,12 +105,12 @@ returns-clause-exchange c =
 
 pub returns-clause-stop : goal.returns-clause-stop
 returns-clause-stop c =
-    err-with c.exchange_lines.result (IsPairStop (lists_of c.self.inside.table) (record { enter = c.line_slot-line.result; side = c.args.enter.side; leave = c.line_slot.result })) (IsUnfitStop c.args.self.now.problem (exchanged (record { enter = c.args.enter; leave = c.args.leave }) c.args.self.now.marks))
+    err-with c.exchange_known.result (IsPairStop (lists_of c.self.inside.table) (record { enter = c.line_slot-line.result; side = c.args.enter.side; leave = c.line_slot.result })) (IsUnfitStop c.args.self.now.problem (exchanged (record { enter = c.args.enter; leave = c.args.leave }) c.args.self.now.marks))
     (λ e h. subst (λ (v : CornerView). IsUnfitStop v.problem (exchanged (record { enter = c.args.enter; leave = c.args.leave }) v.marks) e) c.self.view_is (h (record { enter = c.args.enter; leave = c.args.leave }) (pairs c)))
-    c.exchange_lines.ensures.stop
+    c.exchange_known.ensures.stop
 
 pub invariant_of-self : goal.invariant_of-self
-invariant_of-self c = (c.turn_line.ensures.consistent, c.forget_known.ensures (lists_of c.turn_line.new.table))
+invariant_of-self c = (c.turn_known.ensures.consistent, c.turn_known.ensures.known)
 
 pub invariant_of-self-2 : goal.invariant_of-self-2
-invariant_of-self-2 c = (c.exchange_lines.ensures.consistent, c.forget_known.ensures (lists_of c.exchange_lines.new.table))
+invariant_of-self-2 c = (c.exchange_known.ensures.consistent, c.exchange_known.ensures.known)

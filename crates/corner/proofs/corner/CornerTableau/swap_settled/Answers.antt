@@ -59,7 +59,7 @@ returns-then-are_of_line-clause-stop c =
     (λ e h. subst (λ (v : CornerView). IsUnfitStop v.problem (exchanged (record { enter = c.args.enter; leave = c.args.leave }) v.marks) e) c.self.view_is (h (record { enter = c.args.enter; leave = c.args.leave }) (turns c)))
     c.turn_safe.ensures.stop
 
-pairs : (c : goal.After-exchange_settled) → IsPair (lists_of c.self.inside.table) (record { enter = c.line_slot-line.result; side = c.args.enter.side; leave = c.line_slot.result }) (record { enter = c.args.enter; leave = c.args.leave })
+pairs : (c : goal.After-settle_known) → IsPair (lists_of c.self.inside.table) (record { enter = c.line_slot-line.result; side = c.args.enter.side; leave = c.line_slot.result }) (record { enter = c.args.enter; leave = c.args.leave })
 pairs c =
     let ne : c.args.enter.row ≢ c.args.leave.row = λ e. not_both c.are_of_line.result (c.are_of_line.ensures.1 e) c.if-are_of_line.false in
     swap_pair (lists_of c.self.inside.table) c.args.enter c.args.leave c.line_slot-line.result c.line_slot.result c.self.invariant.0.kept
@@ -67,8 +67,8 @@ pairs c =
     (subst (λ (v : CornerView). IsIn (place c.args.leave) v.marks) (sym c.self.view_is) c.requires.leave)
     (subst (λ (v : CornerView). MovesWith v.problem v.marks c.args.enter (MarkOf c.args.leave)) (sym c.self.view_is) c.requires.moves) ne c.line_slot-line.ensures.value c.line_slot.ensures.value
 
-pub exchange_settled-requires-clause-pair : goal.exchange_settled-requires-clause-pair
-exchange_settled-requires-clause-pair c =
+pub settle_known-requires-clause-pair : goal.settle_known-requires-clause-pair
+settle_known-requires-clause-pair c =
     let ne : c.args.enter.row ≢ c.args.leave.row = λ e. not_both c.are_of_line.result (c.are_of_line.ensures.1 e) c.if-are_of_line.false in record {
       kept = c.self.invariant.0.kept;
       swap = record { enter = c.args.enter; leave = c.args.leave };
@@ -80,16 +80,16 @@ exchange_settled-requires-clause-pair c =
 
 pub returns-clause-marks : goal.returns-clause-marks
 returns-clause-marks c =
-    ok-with c.exchange_settled.result (AreMarksBy (lists_of c.self.inside.table) (record { enter = c.line_slot-line.result; side = c.args.enter.side; leave = c.line_slot.result }) (lists_of c.exchange_settled.new.table))
-    (SameMarks (marks_at (lists_of c.exchange_settled.new.table)) (exchanged (record { enter = c.args.enter; leave = c.args.leave }) c.args.self.now.marks))
-    (λ h. subst (λ (v : CornerView). SameMarks (marks_at (lists_of c.exchange_settled.new.table)) (exchanged (record { enter = c.args.enter; leave = c.args.leave }) v.marks)) c.self.view_is (h (record { enter = c.args.enter; leave = c.args.leave }) (pairs c)))
-    c.exchange_settled.ensures.marks
+    ok-with c.settle_known.result (AreMarksBy (lists_of c.self.inside.table) (record { enter = c.line_slot-line.result; side = c.args.enter.side; leave = c.line_slot.result }) (lists_of c.settle_known.new.table))
+    (SameMarks (marks_at (lists_of c.settle_known.new.table)) (exchanged (record { enter = c.args.enter; leave = c.args.leave }) c.args.self.now.marks))
+    (λ h. subst (λ (v : CornerView). SameMarks (marks_at (lists_of c.settle_known.new.table)) (exchanged (record { enter = c.args.enter; leave = c.args.leave }) v.marks)) c.self.view_is (h (record { enter = c.args.enter; leave = c.args.leave }) (pairs c)))
+    c.settle_known.ensures.marks
 
 pub returns-clause-stop : goal.returns-clause-stop
 returns-clause-stop c =
-    err-with c.exchange_settled.result (IsPairStop (lists_of c.self.inside.table) (record { enter = c.line_slot-line.result; side = c.args.enter.side; leave = c.line_slot.result })) (IsUnfitStop c.args.self.now.problem (exchanged (record { enter = c.args.enter; leave = c.args.leave }) c.args.self.now.marks))
+    err-with c.settle_known.result (IsPairStop (lists_of c.self.inside.table) (record { enter = c.line_slot-line.result; side = c.args.enter.side; leave = c.line_slot.result })) (IsUnfitStop c.args.self.now.problem (exchanged (record { enter = c.args.enter; leave = c.args.leave }) c.args.self.now.marks))
     (λ e h. subst (λ (v : CornerView). IsUnfitStop v.problem (exchanged (record { enter = c.args.enter; leave = c.args.leave }) v.marks) e) c.self.view_is (h (record { enter = c.args.enter; leave = c.args.leave }) (pairs c)))
-    c.exchange_settled.ensures.stop
+    c.settle_known.ensures.stop
 
 pub turn_safe-requires-clause-settled : goal.turn_safe-requires-clause-settled
 turn_safe-requires-clause-settled c =
@@ -101,8 +101,8 @@ turn_safe-requires-clause-settled c =
       subst (λ (v : CornerView). AreCandidates v.problem (exchanged (record { enter = c.args.enter; leave = c.args.leave }) v.marks) []) (sym c.self.view_is) c.requires.settled,
     )
 
-pub exchange_settled-requires-clause-settled : goal.exchange_settled-requires-clause-settled
-exchange_settled-requires-clause-settled c =
+pub settle_known-requires-clause-settled : goal.settle_known-requires-clause-settled
+settle_known-requires-clause-settled c =
     let ne : c.args.enter.row ≢ c.args.leave.row = λ e. not_both c.are_of_line.result (c.are_of_line.ensures.1 e) c.if-are_of_line.false in (
       record { enter = c.args.enter; leave = c.args.leave },
       swap_pair (lists_of c.self.inside.table) c.args.enter c.args.leave c.line_slot-line.result c.line_slot.result c.self.invariant.0.kept
@@ -113,4 +113,4 @@ exchange_settled-requires-clause-settled c =
     )
 
 pub invariant_of-self-2 : goal.invariant_of-self-2
-invariant_of-self-2 c = (c.exchange_settled.ensures.consistent, c.forget_known.ensures (lists_of c.exchange_settled.new.table))
+invariant_of-self-2 c = (c.settle_known.ensures.consistent, c.settle_known.ensures.known)
