@@ -288,7 +288,7 @@ fn both(sum: &Sum<'_>, left: i64, right: i64) -> i128
 fn is_left_out(sum: &Sum<'_>, col: u64) -> bool
     ensures { result ≡ (sum.now.leaves && nat_eq col sum.now.without.0) }
 {
-    sum.leaves && col == sum.without.0
+    col == sum.without.0 && sum.leaves
 }
 
 // The number that the sum has at a column where the rows have these ones.

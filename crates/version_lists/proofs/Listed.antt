@@ -1,15 +1,17 @@
 -- One list of slots that rises.
-use Rattle.std.proofs.Common.{◌≡◌, ◌≢◌, ◌↔◌, ◌∙◌, inl, inr, ℕ, zero, suc, ◌+◌, ◌-◌, ◌<◌, ◌≤◌, List, ◌∷◌, ◌++◌, length, take, drop, get_or, sym, subst, ap, arith, Err}
+use Rattle.std.proofs.Common.{◌≡◌, ◌≢◌, ◌↔◌, ◌∙◌, inl, inr, ℕ, zero, suc, ◌+◌, ◌-◌, ◌<◌, ◌≤◌, List, [], ◌∷◌, ◌++◌, length, take, drop, get_or, Some, sym, subst, ap, arith, Err, All}
 use Rattle.std.specs.List.{Contains, insert, remove}
+use Rattle.std.specs.Prelude.{slice_get}
 use Rattle.std.specs.List.Sorted.{IsBinarySearchResult}
 use Rattle.std.specs.Ordering.{nat_cmp}
 use Rattle.std.proofs.lemmas.Bool.{cases_eq, cases_lt, cases_order}
-use Rattle.std.proofs.lemmas.List.{get_or_default, take-append-drop}
-use Rattle.std.proofs.lemmas.List.Edits.{length-insert, get_or-insert_below, get_or-insert_at, get_or-insert_above, get_or-remove_below, get_or-remove_above, length-remove}
+use Rattle.std.proofs.lemmas.List.{append-nil, get_or_default, take-append-drop}
+use Rattle.std.proofs.lemmas.List.Edits.{length-insert, get_or-insert_below, get_or-insert_at, get_or-insert_above, get_or-remove_below, get_or-remove_above, insert_end, length-remove}
 use Rattle.std.proofs.lemmas.List.Elements.{Contains-append_left, Contains-append_right, Contains-append_cases}
+use Rattle.std.proofs.lemmas.Option.{get_or_from_slice_get}
 use Rattle.std.proofs.lemmas.List.Quantifiers.{all_pairs_remove}
 use Rattle.std.proofs.lemmas.List.Sorted.{searched}
-use Rattle.std.proofs.Math.Seq.{drop-cons}
+use Rattle.std.proofs.Math.Seq.{drop-cons, drop-length}
 use Rattle.version_lists.specs.Indexes.{IsRisingList}
 use Rattle.version_lists.specs.Lists.{IsWith, IsWithout}
 
@@ -176,3 +178,36 @@ without_absent xs w at rising place = record {
   gone = absent_at_place xs w at place;
   others = λ v other. (λ h. h, λ h. h);
 }
+
+-- ---- at the end of a list
+
+-- all are below what is above the last one
+pub above_all : (xs : List ℕ) (w last : ℕ) → IsRisingList xs → slice_get xs (length xs - 1) ≡ Some last → last < w → All (λ v. v < w) xs
+above_all xs w last rising at less k d within =
+    let is : get_or xs (length xs - 1) d ≡ last = get_or_from_slice_get xs (length xs - 1) last d at in
+    elim (cases_lt k (length xs - 1)) [
+      | inl before ↦ omega (arith, is, less, rising k (length xs - 1) d before (omega (arith, within)))
+      | inr from ↦
+          let same : k ≡ length xs - 1 = omega (arith, from, within) in
+          rw same (omega (arith, is, less))
+    ]
+
+pub with_pushed : (xs : List ℕ) (w : ℕ) (new : List ℕ) → IsRisingList xs → All (λ v. v < w) xs → new ≡ xs ++ w ∷ [] → IsWith w xs new
+with_pushed xs w new rising above is =
+    with_inserted xs w (length xs) new rising
+    (record {
+      within = omega arith;
+      below = λ k d less. above k d less;
+      above = λ k d le within. absurd (omega (arith, le, within));
+    })
+    (is ∙ sym (insert_end xs w))
+
+pub without_last : (xs : List ℕ) (w : ℕ) (new : List ℕ) → IsRisingList xs → slice_get xs (length xs - 1) ≡ Some w → new ≡ take (length xs - 1) xs → IsWithout w xs new
+without_last [] w new rising at is = cc
+without_last (x ∷ xs) w new rising at is =
+    let last : length (x ∷ xs) - 1 ≡ length xs = omega arith in
+    without_removed (x ∷ xs) w (length xs) new rising (omega arith)
+    (get_or_from_slice_get (x ∷ xs) (length xs) w 0 (subst (λ (n : ℕ). slice_get (x ∷ xs) n ≡ Some w) last at))
+    (is
+    ∙ ap (λ (n : ℕ). take n (x ∷ xs)) last
+    ∙ sym (ap (λ (ys : List ℕ). take (length xs) (x ∷ xs) ++ ys) (drop-length (x ∷ xs)) ∙ append-nil (take (length xs) (x ∷ xs))))

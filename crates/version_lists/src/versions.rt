@@ -263,6 +263,8 @@ impl<T: Clone + Drop> VersionList<T> {
 
     /// The element at a place, to be written where it is. Its first `edit` since a mark clones it, and the
     /// clone takes its place. After want of memory the list is as before.
+    // Inlined with `own`, since most calls find that the place was written before.
+    #[inline(always)]
     pub fn edit(&mut self, i: usize) -> Result<&mut T, OutOfMemory>
         requires { i < length self.old.items }
         ensures* writes_back { sem 𝓛 (lends_item T.row self.entry i result) }

@@ -1,5 +1,5 @@
 // The list of a column: the slots of the rows in which it stands, rising.
-ghost use Rattle.std.specs.Prelude.{◌≡◌, [], OnOk};
+ghost use Rattle.std.specs.Prelude.{◌≡◌, ◌<◌, ◌-◌, [], All, IsTrue, OnOk, Some, length, slice_get};
 ghost use Rattle.version_lists.specs.Indexes.{IsRisingList};
 ghost use Rattle.version_lists.specs.Lists.{IsWith, IsWithout};
 
@@ -38,11 +38,36 @@ impl Clone for Column {
     }
 }
 
+// Whether w is above all of them, as the slot of a new row is.
+fn is_above(list: &[u32], w: u32) -> bool
+    requires { IsRisingList list.now }
+    ensures { IsTrue result → All (λ v. v < w) list.now }
+{
+    match list.last() {
+        Some(last) => *last < w,
+        None => true,
+    }
+}
+
+// Whether w is the last of them.
+fn is_last(list: &[u32], w: u32) -> bool
+    ensures { IsTrue result → slice_get list.now (length list.now - 1) ≡ Some w }
+{
+    match list.last() {
+        Some(last) => *last == w,
+        None => false,
+    }
+}
+
 /// Puts w where it belongs, if it isn't there.
 pub(crate) fn put_in(list: &mut Vec<u32>, w: u32) -> Result<(), OutOfMemory>
     requires { IsRisingList list.old.items }
     ensures { OnOk result (IsWith w list.old.items list.new.items) }
 {
+    if is_above(list, w) {
+        list.push(w)?;
+        return Ok(());
+    }
     if let Err(place) = list.binary_search(&w) {
         list.insert(place, w)?;
     }
@@ -54,6 +79,10 @@ pub(crate) fn take_out(list: &mut Vec<u32>, w: u32)
     requires { IsRisingList list.old.items }
     ensures { IsWithout w list.old.items list.new.items }
 {
+    if is_last(list, w) {
+        list.pop();
+        return;
+    }
     if let Ok(place) = list.binary_search(&w) {
         list.remove(place);
     }

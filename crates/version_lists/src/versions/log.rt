@@ -107,6 +107,7 @@ pub fn replace_at<T: Drop>(
 }
 
 /// Puts a clone in the place of an element that going back needs, so that the place may be written.
+#[inline(always)]
 pub fn own<T: Clone + Drop>(
     logs: &mut VecDeque<Log<T>>,
     list: &mut Slotted<T>,
