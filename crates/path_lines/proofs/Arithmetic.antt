@@ -4,3 +4,4 @@ pub mod Moves
 pub mod NumbersOf
 pub mod Unfits
 pub mod ValueSigns
+pub mod AddedNumbers

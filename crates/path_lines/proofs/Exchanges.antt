@@ -7,3 +7,4 @@ pub mod SolvedPivots
 pub mod NextLines
 pub mod Turning
 pub mod Leading
+pub mod PlainSums

@@ -1,6 +1,7 @@
 pub mod Stops
 pub mod Numbering
 pub mod Numbers
+pub mod Adding
 pub mod Tables
 pub mod Exchanges
 pub mod Route

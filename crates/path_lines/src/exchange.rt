@@ -10,12 +10,14 @@ ghost use Rattle.problem_core.specs.Corners.{IsExchange};
 ghost use Rattle.problem_core.specs.declared.parts.Mark.{Mark};
 ghost use Rattle.path_lines.specs.Numbers.{AreFitting, IsCombined, IsFactor, IsReplaced};
 ghost use Rattle.path_lines.specs.Numbers.{flip_sign, number_at};
+ghost use Rattle.path_lines.specs.Adding.{ArePlaces, IsPlainLine};
 ghost use Rattle.path_lines.specs.Tables.{AreLines, AreSized, IsSized, IsSizedLine, IsThere, swap_of};
 ghost use Rattle.path_lines.specs.Exchanges.Pivots.{AreNextLines, AreUnfitNext, IsEnteringSum};
 ghost use Rattle.path_lines.specs.Exchanges.Pivots.{IsNextLine, IsNextSum, IsPivotBy, IsSolvedFrom};
 ghost use Rattle.path_lines.specs.Exchanges.Pivots.{IsUnfitNext, IsUnfitNextSum, LeadTo, LeadToUnfit};
 ghost use Rattle.path_lines.specs.Exchanges.Pivots.{LeadsToUnfit};
 
+use crate::adding::{add_pivot, places_of};
 use crate::numbers::{Lowest, Wide, combined, in_lowest_terms};
 use crate::spots::Step;
 use crate::stop::SumStop;
@@ -307,6 +309,75 @@ fn exchanged_line(
     Ok(Some(Inside { side, sum: next }))
 }
 
+// Whether the line is inside before and after an exchange of two lines, and its sum then is its sum before
+// with a multiple of the pivot's numbers.
+fn is_plain(pivot: &Pivot, old: &Option<Inside>, at: usize) -> bool
+    ensures size { result ≡ true → pivot.now.size ≡ pos 1 }
+    ensures enter { result ≡ true → at ≢ pivot.now.step.enter.at }
+    ensures leave { result ≡ true → at ≢ pivot.now.step.leave.at }
+    ensures line { result ≡ true → IsPlainLine old.now }
+{
+    if at == pivot.step.enter.at || at == pivot.step.leave.at || pivot.size != 1 {
+        return false;
+    }
+    match old {
+        Some(inside) => inside.sum.own == 1,
+        None => false,
+    }
+}
+
+// Makes such a line the line after the exchange. The pivot's numbers are 0 but for these places.
+fn add_to_line(
+    pivot: &Pivot,
+    places: &[usize],
+    line: &mut Option<Inside>,
+    at: usize,
+    enters: Frac,
+) -> Result<(), Unfit>
+    requires size { pivot.now.size ≡ pos 1 }
+    requires enter { at ≢ pivot.now.step.enter.at }
+    requires leave { at ≢ pivot.now.step.leave.at }
+    requires plain { IsPlainLine line.old }
+    requires fits { All IsFitting pivot.now.by.items }
+    requires places { ArePlaces pivot.now.by.items places.now }
+    requires enter_at { pivot.now.step.enter.at < length pivot.now.by.items }
+    requires sized { IsSizedLine (length pivot.now.by.items) line.old }
+    ensures sized { IfOk result (λ _. IsSizedLine (length pivot.now.by.items) line.new) }
+    ensures line { IfOk result (λ _. IsNextLine pivot.now enters at line.old line.new) }
+    ensures unfit { IfErr result (λ _. IsUnfitNext pivot.now enters at line.old) }
+{
+    match line {
+        Some(inside) => add_pivot(pivot, places, &mut inside.sum, enters),
+        None => Ok(()),
+    }
+}
+
+// Makes a line the line after an exchange of two lines, in place where that can be.
+fn put_line(
+    alloc: Global,
+    pivot: &Pivot,
+    places: &[usize],
+    line: &mut Option<Inside>,
+    at: usize,
+    enters: Frac,
+) -> Result<(), SumStop>
+    requires above { pos 0 <ℤ pivot.now.size }
+    requires fits { AreFitting pivot.now.size pivot.now.by.items }
+    requires places { ArePlaces pivot.now.by.items places.now }
+    requires enter { pivot.now.step.enter.at < length pivot.now.by.items }
+    requires sized { IsSizedLine (length pivot.now.by.items) line.old }
+    ensures sized { IfOk result (λ _. IsSizedLine (length pivot.now.by.items) line.new) }
+    ensures line { IfOk result (λ _. IsNextLine pivot.now enters at line.old line.new) }
+    ensures unfit { IfErr result (λ stop. IsRefused stop → IsUnfitNext pivot.now enters at line.old) }
+{
+    if is_plain(pivot, line, at) {
+        add_to_line(pivot, places, line, at, enters)?;
+        return Ok(());
+    }
+    *line = exchanged_line(alloc, pivot, line, at, enters)?;
+    Ok(())
+}
+
 // Whether an exchange of two lines may change the kept line at a place.
 fn is_touched(pivot: &Pivot, old: &Option<Inside>, at: usize) -> bool
     requires enter { pivot.now.step.enter.at < length pivot.now.by.items }
@@ -340,10 +411,11 @@ fn exchanged_lines(
     ensures lines { IfOk result (λ next. AreNextLines pivot.now enters lines.items next.items) }
     ensures unfit { IfErr result (λ stop. IsRefused stop → AreUnfitNext pivot.now enters lines.items) }
 {
+    let places = places_of(alloc, &pivot.by)?;
     let mut out = lines;
     for at in 0..out.len() {
         if is_touched(pivot, &out[at], at) {
-            out[at] = exchanged_line(alloc, pivot, &out[at], at, enters)?;
+            put_line(alloc, pivot, &places, &mut out[at], at, enters)?;
         }
     }
     Ok(out)

@@ -27,10 +27,11 @@
 //! corner.
 //!
 //! In reading order: `spots` (marks by place), `table` (a corner's lines), `stop` (why a sum isn't made),
-//! `numbers` (lowest terms), `exchange`, `signs` (of values), `first` (the lines where a route begins),
-//! `laws`, `costs` (the costs of a line's deviations).
+//! `numbers` (lowest terms), `exchange`, `adding` (sums that an exchange changes in place), `signs` (of
+//! values), `first` (the lines where a route begins), `laws`, `costs` (the costs of a line's deviations).
 #![tactic(auto)]
 
+mod adding;
 mod costs;
 mod exchange;
 mod first;

@@ -5,7 +5,7 @@ use Rattle.path_lines.specs.declared.table.Inside.{Inside}
 use Rattle.path_lines.specs.Exchanges.Pivots.{IsNextLine}
 use Rattle.path_lines.specs.Tables.{IsLineAt, IsSizedLine, line_count, name_at}
 use Rattle.path_lines.proofs.Replacing.{none_done, one_replaced, one_stays}
-use Rattle.path_lines.proofs.exchange.exchanged_lines.Goals.{then-is_touched+in_ok-out+in-Some-1, then-is_touched+in_ok-out+in-None-1, else-is_touched}
+use Rattle.path_lines.proofs.exchange.exchanged_lines.Goals.{then-is_touched+in_ok-put_line, else-is_touched}
 use Rattle.path_lines.proofs.exchange.exchanged_lines.Goals as goal
 
 pub loop-at-init : goal.loop-at-init
@@ -19,18 +19,18 @@ is_touched-requires-clause-sized c =
     let within : c.loop-at.at < length c.args.lines.items = omega (arith, c.loop-at-test.true, c.loop-at.invariant.end) in
     subst₂ (λ (n : ℕ) (o : Option Inside). IsSizedLine n o) (sym c.requires.count) (sym c.index.ensures) (c.loop-at.invariant.done.sized c.loop-at.at c.index.result.now (omega (arith, within, c.loop-at.invariant.done.count)))
 
-pub exchanged_line-requires-clause-sized : goal.exchanged_line-requires-clause-sized
-exchanged_line-requires-clause-sized c =
+pub put_line-requires-clause-sized : goal.put_line-requires-clause-sized
+put_line-requires-clause-sized c =
     let within : c.loop-at.at < length c.args.lines.items = omega (arith, c.loop-at-test.true, c.loop-at.invariant.end) in
-    subst₂ (λ (n : ℕ) (o : Option Inside). IsSizedLine n o) (sym c.requires.count) (sym c.index-then-is_touched.ensures) (c.loop-at.invariant.done.sized c.loop-at.at c.index-then-is_touched.result.now (omega (arith, within, c.loop-at.invariant.done.count)))
+    subst₂ (λ (n : ℕ) (o : Option Inside). IsSizedLine n o) (sym c.requires.count) (sym c.index_mut.ensures.value) (c.loop-at.invariant.done.sized c.loop-at.at c.index_mut.result.now (omega (arith, within, c.loop-at.invariant.done.count)))
 
-pub returns-in_err-out-clause-unfit : goal.returns-in_err-out-clause-unfit
-returns-in_err-out-clause-unfit c =
-    let exit = err_from_is_err_and c.from_residual.result c.from_residual.ensures.1 in
+pub returns-in_err-put_line-clause-unfit : goal.returns-in_err-put_line-clause-unfit
+returns-in_err-put_line-clause-unfit c =
+    let exit = err_from_is_err_and c.from_residual-in_err-put_line.result c.from_residual-in_err-put_line.ensures.1 in
     rw (exit.1, exit.2) (λ same p at is entered lines.
     let within : c.loop-at.at < line_count p = omega (arith, c.loop-at-test.true, c.loop-at.invariant.end, lines.count) in
-    c.in_err-out.ensures.unfit same p at is entered within
-    (subst (IsLineAt p at (name_at p c.loop-at.at)) (sym (c.index-then-is_touched.ensures ∙ c.loop-at.invariant.done.rest c.loop-at.at c.index-then-is_touched.result.now (omega arith))) (lines.each c.loop-at.at c.index-then-is_touched.result.now within)))
+    c.in_err-put_line.ensures.unfit same p at is entered within
+    (subst (IsLineAt p at (name_at p c.loop-at.at)) (sym (c.index_mut.ensures.value ∙ c.loop-at.invariant.done.rest c.loop-at.at c.index_mut.result.now (omega arith))) (lines.each c.loop-at.at c.index_mut.result.now within)))
 
 pub loop-at-preserved : goal.loop-at-preserved
 loop-at-preserved c =
@@ -40,16 +40,11 @@ loop-at-preserved c =
     record {
       end = c.loop-at.invariant.end;
       done = elim c.if-is_touched.branch [
-        | then-is_touched+in_ok-out+in-Some-1 w ↦
+        | then-is_touched+in_ok-put_line w ↦
             rw w.out-is
-            (one_replaced (IsNextLine c.args.pivot.now c.args.enters) (IsSizedLine (length c.args.lines.items)) c.args.lines.items c.loop-at.out.items c.loop-at.at w.index-then-is_touched.result.now w.in_ok-out.field-0 within
-            (λ d. w.index-then-is_touched.ensures ∙ get_or_default c.loop-at.out.items c.loop-at.at w.index-then-is_touched.result.now d inside)
-            (subst (λ (n : ℕ). IsSizedLine n w.in_ok-out.field-0) c.requires.count w.in_ok-out.ensures.sized) w.in_ok-out.ensures.line c.loop-at.invariant.done)
-        | then-is_touched+in_ok-out+in-None-1 w ↦
-            rw w.out-is
-            (one_replaced (IsNextLine c.args.pivot.now c.args.enters) (IsSizedLine (length c.args.lines.items)) c.args.lines.items c.loop-at.out.items c.loop-at.at w.index-then-is_touched.result.now w.in_ok-out.field-0 within
-            (λ d. w.index-then-is_touched.ensures ∙ get_or_default c.loop-at.out.items c.loop-at.at w.index-then-is_touched.result.now d inside)
-            (subst (λ (n : ℕ). IsSizedLine n w.in_ok-out.field-0) c.requires.count w.in_ok-out.ensures.sized) w.in_ok-out.ensures.line c.loop-at.invariant.done)
+            (one_replaced (IsNextLine c.args.pivot.now c.args.enters) (IsSizedLine (length c.args.lines.items)) c.args.lines.items c.loop-at.out.items c.loop-at.at w.index_mut.result.now w.put_line.new.line within
+            (λ d. w.index_mut.ensures.value ∙ get_or_default c.loop-at.out.items c.loop-at.at w.index_mut.result.now d inside)
+            (subst (λ (n : ℕ). IsSizedLine n w.put_line.new.line) c.requires.count w.in_ok-put_line.ensures.sized) w.in_ok-put_line.ensures.line c.loop-at.invariant.done)
         | else-is_touched w ↦
             rw w.out-is
             (one_stays (IsNextLine c.args.pivot.now c.args.enters) (IsSizedLine (length c.args.lines.items)) c.args.lines.items c.loop-at.out.items c.loop-at.at c.index.result.now here (c.is_touched.ensures w.if-is_touched.false c.args.enters) c.loop-at.invariant.done)
