@@ -11,11 +11,13 @@
 //! refused, and 1 if one was, or if line 12 has no such problem. It is 2 for other arguments, 3 and 4 if
 //! reading or writing failed, 5 if memory ran out, and 6 for more input than a run takes.
 //!
-//! `tell_refusals` explains a line. In reading order: `asked` (the arguments), `teller` (answers the lines of
-//! a script).
+//! `tell_refusals` explains a line. In reading order: `asked` (the arguments), `posing` (the problem of a
+//! line), `lent` (what explanations need of the session), `teller` (answers the lines of a script).
 #![tactic(auto)]
 
 mod asked;
+mod lent;
+mod posing;
 mod teller;
 
 use crate::asked::{Asked, asked_for};

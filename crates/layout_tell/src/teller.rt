@@ -2,6 +2,8 @@
 ghost use Rattle.std.specs.Prelude.{⊤};
 
 use crate::asked::Asked;
+use crate::lent::{Lent, Needs, groups_of, need_of, parts_of};
+use crate::posing::{put_early, step_problem};
 use edge_io::{LINE_LIMIT, Piece, Sink, StdSource, put_all};
 use frac_core::OutOfMemory;
 use layout_cli::{Responder, Status};
@@ -13,13 +15,13 @@ use session_undo::Refusal;
 use std::alloc::Global;
 use tell_finding::Finding;
 use tell_mend::{Reader, line_at};
-use tell_refusals::{Owners, Telling, put_problem};
+use tell_refusals::{Owners, Telling, has_problem, put_finding, put_problem, set_then};
 
 // Answers the lines of a script and explains them.
 #[derive(Drop)]
 struct Teller<'s> {
     responder: Responder,
-    owners: Owners,
+    owners: Owners<'s>,
     asked: Asked,
     script: &'s [u8],
     // The number of the latest line, how many lines got a reply, and how many were refused.
@@ -29,8 +31,9 @@ struct Teller<'s> {
     // Whether the line came whose problem is asked for, and whether that was printed.
     is_found: bool,
     is_printed: bool,
-    // The latest reply, and its explanation.
+    // The latest reply, what a suggested line would get in turn, and the explanation.
     reply: Vec<u8>,
+    early: Vec<u8>,
     out: Vec<u8>,
 }
 
@@ -39,11 +42,12 @@ const NO_LINE: &[u8] = b"no problem: the script has no line of this number that 
 impl<'s> Teller<'s> {
     // Before the first line.
     fn new(alloc: Global, asked: Asked, script: &'s [u8]) -> Result<Teller<'s>, OutOfMemory> {
+        let mut owners = Owners::new(alloc, script)?;
         let responder = Responder::new(alloc)?;
-        let next = responder.session().state().next_row();
+        owners.start(responder.session().state().next_row());
         Ok(Teller {
             responder,
-            owners: Owners::new(alloc, next),
+            owners,
             asked,
             script,
             number: 0,
@@ -52,6 +56,7 @@ impl<'s> Teller<'s> {
             is_found: false,
             is_printed: false,
             reply: Vec::new(alloc),
+            early: Vec::new(alloc),
             out: Vec::new(alloc),
         })
     }
@@ -68,28 +73,112 @@ impl<'s> Teller<'s> {
         Ok(true)
     }
 
-    // Explains a line that was answered.
-    fn tell(&mut self, line: &[u8]) -> Result<(), OutOfMemory> {
+    // Appends a finding. If it suggests a line that would be refused in turn before anything is solved, says so.
+    fn put(&mut self, mut finding: Finding, so: &[u8]) -> Result<(), OutOfMemory> {
+        let session = self.responder.session();
+        let mut reader = Reader::new(*self.out.allocator(), session.version());
+        self.early.clear();
+        if !so.is_empty() {
+            put_early(&mut reader, session, so, &mut self.early);
+        }
+        if !self.early.is_empty() {
+            set_then(&mut finding, &self.early);
+        }
+        let is_json = matches!(self.asked, Asked::Json);
+        put_finding(&mut reader, &mut self.out, finding, is_json);
+        reader.done()
+    }
+
+    // The finding of a line that was answered, with what the session lends for that.
+    fn finding<'x>(&'x self, line: &'x [u8], lent: Lent<'x>, so: &'x mut Vec<u8>) -> Finding {
+        let alloc = *self.out.allocator();
         let session = self.responder.session();
         let told = Telling {
-            reader: Reader::new(*self.out.allocator(), session.version()),
-            finding: Finding::new(*self.out.allocator()),
-            session,
+            reader: Reader::new(alloc, session.version()),
+            finding: Finding::new(alloc),
+            parts: parts_of(session, lent),
             owners: &self.owners,
             script: self.script,
             number: self.number,
             line,
             reply: &self.reply,
+            so,
         };
-        told.explain(matches!(self.asked, Asked::Json), &mut self.out)
+        told.explain()
+    }
+
+    // Explains a line that was answered, with what the session lends for that.
+    fn tell_with<'x>(&mut self, line: &'x [u8], lent: Lent<'x>) -> Result<(), OutOfMemory> {
+        let mut so = Vec::new(*self.out.allocator());
+        let finding = self.finding(line, lent, &mut so);
+        let done = self.put(finding, &so);
+        drop(so);
+        done
+    }
+
+    // Explains a conflict.
+    fn tell_conflict(&mut self, line: &[u8]) -> Result<(), OutOfMemory> {
+        let problem = step_problem(*self.out.allocator(), self.responder.session(), line)?;
+        let lent = Lent {
+            problem: problem.as_ref(),
+            ..Lent::nothing()
+        };
+        let done = self.tell_with(line, lent);
+        drop(problem);
+        done
+    }
+
+    // Explains an unknown group.
+    fn tell_group(&mut self, line: &[u8]) -> Result<(), OutOfMemory> {
+        let session = self.responder.session();
+        let mut reader = Reader::new(*self.out.allocator(), session.version());
+        let groups = groups_of(&mut reader, session, self.script);
+        let lent = Lent {
+            groups: &groups,
+            ..Lent::nothing()
+        };
+        let done = self.tell_with(line, lent);
+        drop(groups);
+        reader.done()?;
+        done
+    }
+
+    // Explains what `diagnose` found.
+    fn tell_found(&mut self, line: &[u8]) -> Result<(), OutOfMemory> {
+        let values = self.responder.session().values()?;
+        let lent = Lent {
+            values: values.pairs(),
+            ..Lent::nothing()
+        };
+        let done = self.tell_with(line, lent);
+        drop(values);
+        done
+    }
+
+    // Explains a line that was answered.
+    fn tell(&mut self, line: &[u8]) -> Result<(), OutOfMemory> {
+        match need_of(line, &self.reply) {
+            Needs::Problem => self.tell_conflict(line),
+            Needs::Groups => self.tell_group(line),
+            Needs::Values => self.tell_found(line),
+            Needs::Nothing => self.tell_with(line, Lent::nothing()),
+        }
     }
 
     // Prints the problem of a line that was answered, or why it has none.
     fn print(&mut self, line: &[u8]) -> Result<(), OutOfMemory> {
+        let alloc = *self.out.allocator();
         let session = self.responder.session();
-        let mut reader = Reader::new(*self.out.allocator(), session.version());
+        let mut reader = Reader::new(alloc, session.version());
         self.is_found = true;
-        self.is_printed = put_problem(&mut reader, &mut self.out, session, line, &self.reply);
+        if has_problem(&mut reader, &mut self.out, &self.reply) {
+            let problem = step_problem(alloc, session, line)?;
+            if let Some(problem) = &problem {
+                put_problem(&mut reader, &mut self.out, problem, &self.reply);
+                self.is_printed = true;
+            }
+            drop(problem);
+        }
         reader.done()
     }
 

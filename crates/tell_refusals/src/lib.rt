@@ -1,18 +1,19 @@
-//! Explains refused lines. It reads a reply as any client of `layout run` does, and asks the session that
-//! gave it about names, rows and the problem of the line.
+//! Explains refused lines. It reads a reply as any client of `layout run` does, and gets parts of the session
+//! that gave it: names, rows and the problem of the line.
 //!
 //! ```
 //! let told = Telling {
 //!     reader: Reader::new(alloc, session.version()),
 //!     finding: Finding::new(alloc),
-//!     session: &session,
+//!     parts,                                       // the session's tree, metrics, rows ..
 //!     owners: &owners,                             // which line each row is from
 //!     script: b"view card\nview b in crad\n",
 //!     number: 2,
 //!     line: b"view b in crad",
 //!     reply: b"refused 2 unknown crad\n",
+//!     so: &mut so,                                 // the line that is suggested
 //! };
-//! told.explain(false, &mut out)?;
+//! put_finding(&mut reader, &mut out, told.explain(), false);
 //! // line 2, column 11: refused 2 unknown crad
 //! //     view b in crad
 //! //               ^~~~
@@ -24,24 +25,28 @@
 //!
 //! The crate is only tested.
 //!
-//! In reading order: `owners` ([`Owners`]), `telling` ([`Telling`]: one line), and for the causes of refusals
-//! `syntax` (lines that leave the grammar), `names` and `unknown` (names that are taken or unknown),
-//! `misuse`, `limits`, `rows` and `conflicts`; `open` (ambiguous attributes), `problem` (the problem of a
-//! line).
+//! In reading order: `owners` ([`Owners`]), `parts` ([`Parts`] of a session), `telling` ([`Telling`]: one
+//! line), and for the causes of refusals `syntax` (lines that leave the grammar), `names` and `unknown` (names
+//! that are taken or unknown), `misuse`, `limits`, `attributes`, `shares`, `rows` and `conflicts`; `open`
+//! (ambiguous attributes), `problem` (the problem of a line).
 #![tactic(auto)]
 
+mod attributes;
 mod conflicts;
 mod limits;
 mod misuse;
 mod names;
 mod open;
 mod owners;
+mod parts;
 mod problem;
 mod rows;
+mod shares;
 mod syntax;
 mod telling;
 mod unknown;
 
 pub use owners::Owners;
-pub use problem::put_problem;
-pub use telling::Telling;
+pub use parts::{Most, Parts};
+pub use problem::{has_problem, put_problem};
+pub use telling::{Telling, put_finding, set_then};

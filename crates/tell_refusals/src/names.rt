@@ -1,35 +1,26 @@
 // The explanation of a name that is taken.
+use crate::parts::Parts;
 use crate::telling::Telling;
-use corner_view::Tableau;
-use session_undo::Session;
-use span_text::lines;
 use tell_finding::taken_place;
-use tell_mend::makes_view;
 
 const TWICE: &[u8] =
     b"this tree has the name twice; names are one space, whatever the views are in";
 
 /// The kind of thing that has the name; empty if none has.
-pub(crate) fn holder_of<T: Tableau>(session: &Session<T>, name: &str) -> &'static str {
-    if session.state().tree().find(name).is_some() {
+pub(crate) fn holder_of(parts: Parts<'_>, name: &str) -> &'static str {
+    if parts.tree.find(name).is_some() {
         "a view"
-    } else if session.state().metrics().get(name).is_some() {
+    } else if parts.metrics.get(name).is_some() {
         "a metric"
     } else {
         ""
     }
 }
 
-impl<T: Tableau> Telling<'_, T> {
+impl Telling<'_> {
     // Says which view has the name: that of the last accepted line for such a view, or the window.
     fn set_view_line(&mut self, name: &[u8]) {
-        let (mut number, mut found): (usize, usize) = (0, 0);
-        for line in lines(self.script) {
-            number = number.saturating_add(1);
-            if makes_view(line.bytes, name) && self.owners.has(number) {
-                found = number;
-            }
-        }
+        let found = self.owners.view_line(name);
         if found == 0 {
             return self.finding.set_cure(b"it is the window's");
         }
@@ -43,7 +34,7 @@ impl<T: Tableau> Telling<'_, T> {
 
     /// Explains a name that is taken.
     pub(crate) fn set_taken(&mut self, name: &str) {
-        let holder = holder_of(self.session, name);
+        let holder = holder_of(self.parts, name);
         match holder {
             "a view" => self.set_view_line(name.as_bytes()),
             "a metric" => self.finding.set_cure(b"a metric has this name"),

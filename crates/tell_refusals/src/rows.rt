@@ -1,12 +1,13 @@
 // Rows as relations, and the lines that they are from.
+use crate::attributes::put_attr;
+use crate::problem::row_at;
+use crate::shares::{Share, put_share};
 use crate::telling::Telling;
-use corner_view::Tableau;
-use frac_core::Wide;
-use problem_core::{REQUIRED, Row, Term, row_of};
-use reply_texts::push_attr;
-use session_undo::Session;
+use frac_core::{Frac, Wide};
+use problem_core::{Problem, REQUIRED, Row, Term};
 use tell_finding::Finding;
 use tell_mend::{Reader, Word, line_at, word_of};
+use view_tree::Tree;
 
 // The sign before a term.
 fn sign_of(term: &Term, is_first: bool) -> &'static [u8] {
@@ -19,25 +20,20 @@ fn sign_of(term: &Term, is_first: bool) -> &'static [u8] {
 }
 
 // Appends a term.
-fn put_term<T: Tableau>(reader: &mut Reader, out: &mut Vec<u8>, session: &Session<T>, term: &Term) {
+fn put_term(reader: &mut Reader, out: &mut Vec<u8>, tree: &Tree, term: &Term) {
     let by = term.by.saturating_abs();
     if by != 1 {
         reader.put_number(out, by);
         reader.put(out, b"*");
     }
-    reader.fail_if(push_attr(out, session.state().tree(), term.attr).is_err());
+    put_attr(reader, out, tree, term.attr);
 }
 
 // Appends the sum of terms.
-fn put_terms<T: Tableau>(
-    reader: &mut Reader,
-    out: &mut Vec<u8>,
-    session: &Session<T>,
-    terms: &[Term],
-) {
+fn put_terms(reader: &mut Reader, out: &mut Vec<u8>, tree: &Tree, terms: &[Term]) {
     for (place, term) in terms.iter().enumerate() {
         reader.put(out, sign_of(term, place == 0));
-        put_term(reader, out, session, term);
+        put_term(reader, out, tree, term);
     }
     if terms.is_empty() {
         reader.put(out, b"0");
@@ -57,21 +53,21 @@ fn put_weight(reader: &mut Reader, out: &mut Vec<u8>, row: &Row) {
 }
 
 // Appends a row as a relation.
-fn put_row<T: Tableau>(reader: &mut Reader, out: &mut Vec<u8>, session: &Session<T>, row: &Row) {
-    put_terms(reader, out, session, row.terms());
+fn put_row(reader: &mut Reader, out: &mut Vec<u8>, tree: &Tree, row: &Row) {
+    put_terms(reader, out, tree, row.terms());
     reader.put_all(out, &[b" ", row.rel().word().as_bytes(), b" "]);
     reader.put_frac(out, Wide::from(row.constant()));
     put_weight(reader, out, row);
 }
 
-// Whether the session has the row with another constant.
-fn is_moved<T: Tableau>(session: &Session<T>, row: &Row) -> bool {
-    let engine = session.engine();
-    engine.show_layout(); // for the proof: its rows have rising numbers
-    match row_of(engine.rows(), row.id()) {
-        Some(held) => held.constant() != row.constant(),
-        None => false,
+// Whether one of the held rows is the row with another constant.
+fn is_moved(held: &[Row], row: &Row) -> bool {
+    for other in held {
+        if other.id() == row.id() {
+            return other.constant() != row.constant();
+        }
     }
+    false
 }
 
 /// The line that a row is from.
@@ -85,7 +81,7 @@ pub(crate) struct Source {
     pub is_bound: bool,
 }
 
-impl<T: Tableau> Telling<'_, T> {
+impl Telling<'_> {
     /// The line that the row of this number is from.
     pub(crate) fn source_of(&self, id: u32) -> Source {
         let owner = self.owners.of(id);
@@ -102,35 +98,51 @@ impl<T: Tableau> Telling<'_, T> {
         }
     }
 
-    // Sets the line that the row of this number is from.
-    fn set_source(&self, item: &mut Finding, id: u32) {
-        let source = self.source_of(id);
-        if source.is_bound {
-            item.set_text("note", b", which holds without being said");
-        }
+    // Sets the line that rows are from.
+    fn set_source(&self, item: &mut Finding, source: Source) {
         if source.number > 0 {
             item.set_count("line", source.number);
             item.set_text("text", line_at(self.script, source.number));
         }
     }
 
-    // Sets the row as a relation, with the constant that it has with the refused line.
-    fn set_row(&mut self, item: &mut Finding, row: &Row) {
+    // Sets the first row of a share as a relation, or how many rows it has, and what it adds.
+    fn set_row(&mut self, item: &mut Finding, row: &Row, share: &Share, gap: Frac) {
         let mut words = Vec::new(self.alloc());
-        put_row(&mut self.reader, &mut words, self.session, row);
-        item.set_text("row", &words);
-        if is_moved(self.session, row) {
-            item.set_text("note", b", as the refused line would have it");
+        if share.count == 1 {
+            put_row(&mut self.reader, &mut words, self.parts.tree, row);
+        } else {
+            self.reader.put_count(&mut words, share.count);
+            self.reader.put(&mut words, b" rows");
         }
+        item.set_text("row", &words);
         drop(words);
+        self.set_note(item, row, share, gap);
     }
 
-    /// An object of a row: its multiplier, its line and its relation.
-    pub(crate) fn item_of(&mut self, row: &Row, times: i64) -> Finding {
+    // Sets what a share adds, and what is peculiar to its rows.
+    fn set_note(&mut self, item: &mut Finding, row: &Row, share: &Share, gap: Frac) {
+        let mut note = Vec::new(self.alloc());
+        if share.source.is_bound {
+            self.reader
+                .put(&mut note, b", which holds without being said");
+        } else if is_moved(self.parts.rows, row) {
+            self.reader
+                .put(&mut note, b", as the refused line would have it");
+        }
+        put_share(&mut self.reader, &mut note, share, gap);
+        item.set_text("note", &note);
+        drop(note);
+    }
+
+    /// An object of a share: its multiplier, its line, its row or rows, and what they add.
+    pub(crate) fn item_of(&mut self, problem: &Problem, share: &Share, gap: Frac) -> Finding {
         let mut item = Finding::new(self.alloc());
-        item.set_number("times", times);
-        self.set_source(&mut item, row.id());
-        self.set_row(&mut item, row);
+        item.set_number("times", share.times);
+        self.set_source(&mut item, share.source);
+        if let Some(row) = row_at(problem, share.id) {
+            self.set_row(&mut item, row, share, gap);
+        }
         item
     }
 }

@@ -1,6 +1,5 @@
 // The explanation of a line that leaves the grammar.
 use crate::telling::Telling;
-use corner_view::Tableau;
 use tell_finding::json_fault;
 use tell_mend::{advice, elsewhere, expected, mend, whole_front};
 
@@ -9,7 +8,7 @@ const MORE: &[u8] =
 
 const NO_JSON: &[u8] = b"the text behind `tree` is no JSON from there on";
 
-impl<T: Tableau> Telling<'_, T> {
+impl Telling<'_> {
     // Sets the advice on a mistake that only the author can mend, or suggests the line to the left of the
     // place.
     fn set_advice(&mut self, at: usize) {

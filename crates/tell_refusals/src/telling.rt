@@ -1,10 +1,8 @@
 // The explanation of a refused line.
 use crate::limits::put_why;
 use crate::owners::Owners;
-use crate::problem::{is_own, put_early};
-use corner_view::Tableau;
-use frac_core::OutOfMemory;
-use session_undo::Session;
+use crate::parts::Parts;
+use crate::problem::is_own;
 use std::alloc::Global;
 use tell_finding::{
     Finding, align_cure, cause_of, form_of, put_json, put_people, shape_fault, text_of,
@@ -13,19 +11,21 @@ use tell_mend::{Reader, before_sign, cut, parted};
 
 const SUGGESTED: &[u8] = b"its priority is the first one's; `release` it first for another";
 
-/// A line of a script with its reply, the session that answered it, the lines that rows are from, and the
-/// finding, which has no members yet.
+/// A line of a script with its reply, parts of the session that answered it, the lines that rows are from, and
+/// the finding, which has no members yet.
 #[derive(Drop)]
-pub struct Telling<'a, T: Tableau> {
+pub struct Telling<'a> {
     pub reader: Reader,
     pub finding: Finding,
-    pub session: &'a Session<T>,
-    pub owners: &'a Owners,
+    pub parts: Parts<'a>,
+    pub owners: &'a Owners<'a>,
     pub script: &'a [u8],
     /// The line's number, counted from 1.
     pub number: usize,
     pub line: &'a [u8],
     pub reply: &'a [u8],
+    /// The line that is suggested; empty so far.
+    pub so: &'a mut Vec<u8>,
 }
 
 // The first line of a reply.
@@ -39,55 +39,50 @@ fn cause_words(head: &str) -> &str {
     std::str::from_utf8(words).unwrap_or("")
 }
 
-impl<'a, T: Tableau> Telling<'a, T> {
+/// Says that the suggested line would get this reply, a refusal.
+pub fn set_then(finding: &mut Finding, reply: &[u8]) {
+    finding.set_text("then", head_of(reply).as_bytes());
+}
+
+/// Appends the finding as JSON or as text, unless there is nothing to say.
+pub fn put_finding(reader: &mut Reader, out: &mut Vec<u8>, finding: Finding, is_json: bool) {
+    reader.fail_if(finding.is_short);
+    let value = finding.value();
+    match is_json {
+        _ if text_of(&value, "reply").is_empty() => (),
+        true => put_json(reader, out, &value),
+        false => put_people(reader, out, &value),
+    }
+    drop(value);
+}
+
+impl<'a> Telling<'a> {
     // The allocator of texts.
     pub(crate) fn alloc(&self) -> Global {
         self.reader.alloc()
     }
 
-    // Appends the finding as JSON or as text, unless there is nothing to say.
-    fn put(self, is_json: bool, out: &mut Vec<u8>) -> Result<(), OutOfMemory> {
-        let (mut reader, finding) = (self.reader, self.finding);
-        reader.fail_if(finding.is_short);
-        let value = finding.value();
-        match is_json {
-            _ if text_of(&value, "reply").is_empty() => (),
-            true => put_json(&mut reader, out, &value),
-            false => put_people(&mut reader, out, &value),
-        }
-        drop(value);
-        reader.done()
-    }
-
-    /// Explains the line, and appends the finding as JSON or as text. Appends nothing for an accepted line,
-    /// except the ambiguous attributes after `diagnose`.
-    pub fn explain(mut self, is_json: bool, out: &mut Vec<u8>) -> Result<(), OutOfMemory> {
+    /// Explains the line. Nothing is said of an accepted line, except the ambiguous attributes after
+    /// `diagnose`. The line in `so` may be refused in turn.
+    pub fn explain(mut self) -> Finding {
         self.set_all();
-        self.put(is_json, out)
+        let mut finding = self.finding;
+        finding.is_short |= self.reader.done().is_err();
+        finding
     }
 
-    /// Suggests a line. If that would be refused in turn before anything is solved, says so.
+    /// Suggests a line.
     pub(crate) fn set_so(&mut self, text: &[u8]) {
         self.finding.set_text("mended", text);
-        let mut reply = Vec::new(self.alloc());
-        put_early(&mut self.reader, self.session, text, &mut reply);
-        if !reply.is_empty() {
-            self.finding.set_text("then", head_of(&reply).as_bytes());
-        }
-        drop(reply);
+        self.reader.put(self.so, text);
     }
 
     // Sets what the cause means, and where it shows.
     fn set_cause(&mut self, words: &str) {
         let cause = cause_of(words);
         let mut why = Vec::new(self.alloc());
-        put_why(
-            &mut self.reader,
-            &mut why,
-            words,
-            cause.why,
-            &self.session.limits(),
-        );
+        let most = self.parts.most;
+        put_why(&mut self.reader, &mut why, words, cause.why, most);
         self.finding.set_text("why", &why);
         drop(why);
         let at = self.cause_place(words, cause.mark);
@@ -153,7 +148,7 @@ impl<'a, T: Tableau> Telling<'a, T> {
         self.finding.set_count("line", self.number);
         self.finding.set_text("text", self.line);
         self.finding.set_text("reply", head.as_bytes());
-        if !self.line.trim_ascii_start().is_empty() {
+        if !self.line.trim_ascii_start().is_empty() && !head.starts_with("refused 6") {
             self.finding.set_text("form", form_of(self.line).as_bytes());
         }
     }

@@ -1,11 +1,10 @@
 // The explanation of an unknown name.
 use crate::names::holder_of;
 use crate::telling::Telling;
-use corner_view::Tableau;
-use session_undo::Session;
-use span_text::lines;
+use name_tables::Metrics;
 use tell_finding::unknown_place;
-use tell_mend::{Near, Reader, Wanted, cut, group_of, is_attribute, rank_for, wanted_at};
+use tell_mend::{Near, Reader, Wanted, cut, is_attribute, rank_for, wanted_at};
+use view_tree::Tree;
 
 const PRIORITY: &[u8] =
     b"a priority is a number from 1 to 1000, or a metric's name; 750 is a strong wish, 250 a weak one";
@@ -27,8 +26,7 @@ struct Lost<'a> {
 }
 
 // Takes the names of views.
-fn take_views<'a, T: Tableau>(reader: &mut Reader, near: &mut Near<'a>, session: &'a Session<T>) {
-    let tree = session.state().tree();
+fn take_views<'a>(reader: &mut Reader, near: &mut Near<'a>, tree: &'a Tree) {
     for place in 0..tree.len() {
         if let Some(view) = tree.at(place) {
             near.take(reader, view.name);
@@ -37,8 +35,7 @@ fn take_views<'a, T: Tableau>(reader: &mut Reader, near: &mut Near<'a>, session:
 }
 
 // Takes the names of metrics.
-fn take_metrics<'a, T: Tableau>(reader: &mut Reader, near: &mut Near<'a>, session: &'a Session<T>) {
-    let metrics = session.state().metrics();
+fn take_metrics<'a>(reader: &mut Reader, near: &mut Near<'a>, metrics: &'a Metrics) {
     for place in 0..metrics.len() {
         if let Some(metric) = metrics.at(place) {
             near.take(reader, metric.name);
@@ -46,33 +43,25 @@ fn take_metrics<'a, T: Tableau>(reader: &mut Reader, near: &mut Near<'a>, sessio
     }
 }
 
-// Takes the names of groups that have rows.
-fn take_groups<'a, T: Tableau>(
-    reader: &mut Reader,
-    near: &mut Near<'a>,
-    session: &Session<T>,
-    script: &'a [u8],
-) {
-    for line in lines(script) {
-        let group = group_of(line.bytes);
-        if !group.is_empty() && session.state().has_group(group) {
-            near.take(reader, std::str::from_utf8(group).unwrap_or(""));
-        }
+// Takes the names of groups.
+fn take_groups<'a>(reader: &mut Reader, near: &mut Near<'a>, groups: &'a [&'a [u8]]) {
+    for group in groups {
+        near.take(reader, std::str::from_utf8(*group).unwrap_or(""));
     }
 }
 
-impl<'a, T: Tableau> Telling<'a, T> {
+impl<'a> Telling<'a> {
     // The most similar name of the kind wanted; empty if none is similar.
     fn nearest(&mut self, lost: Lost<'a>) -> &'a str {
         let mut near = Near::new(lost.name);
         if lost.wanted.is_view() {
-            take_views(&mut self.reader, &mut near, self.session);
+            take_views(&mut self.reader, &mut near, self.parts.tree);
         }
         if lost.wanted.is_metric() {
-            take_metrics(&mut self.reader, &mut near, self.session);
+            take_metrics(&mut self.reader, &mut near, self.parts.metrics);
         }
         if let Wanted::Group = lost.wanted {
-            take_groups(&mut self.reader, &mut near, self.session, self.script);
+            take_groups(&mut self.reader, &mut near, self.parts.groups);
         }
         near.name()
     }
@@ -140,8 +129,8 @@ impl<'a, T: Tableau> Telling<'a, T> {
         if let Wanted::Priority = lost.wanted {
             return self.put_priority(cure, lost);
         }
-        let kind = holder_of(self.session, lost.name);
-        let number = lost.wanted.maker(self.script, lost.name.as_bytes());
+        let kind = holder_of(self.parts, lost.name);
+        let number = self.owners.maker(lost.wanted, lost.name.as_bytes());
         if !kind.is_empty() {
             self.put_other(cure, lost, kind);
             ""
