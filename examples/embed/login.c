@@ -46,8 +46,30 @@ static void print_moved(layout_session *session) {
     for (size_t i = 0; i < found; i++) print_frame(session, views[i]);
 }
 
+/* All views of the session, by the names that it has for them. */
+static void print_all(layout_session *session) {
+    static layout_placed all[VIEWS + 1];
+    uint8_t name[64];
+    size_t found = 0, used = 0;
+    if (layout_frames(session, all, VIEWS + 1, &found) != LAYOUT_DONE) return;
+    for (size_t i = 0; i < found; i++) {
+        if (layout_name(session, all[i].view, name, sizeof name, &used) != LAYOUT_DONE) continue;
+        printf("  %.*s", (int)used, (const char *)name);
+        number(all[i].frame.left), number(all[i].frame.top), number(all[i].frame.width), number(all[i].frame.height);
+        puts("");
+    }
+}
+
+static void print_status(uint8_t status) {
+    uint8_t name[20];
+    size_t used = 0;
+    if (layout_status_name(status, name, sizeof name, &used) == LAYOUT_DONE)
+        printf("status %d: %.*s\n", status, (int)used, (const char *)name);
+}
+
 int main(void) {
     layout_session session = {0};
+    if (layout_version() != LAYOUT_VERSION) return 2;
     char line[256];
     if (layout_new(&session) != LAYOUT_DONE) return 1;
     while (fgets(line, sizeof line, stdin)) {
@@ -75,6 +97,9 @@ int main(void) {
     puts("undone");
     for (size_t i = 0; i < found; i++) print_frame(&session, views[i]);
     say(&session, "window 100 100");
+    puts("all views");
+    print_all(&session);
     layout_free(&session);
+    print_status(layout_undo(&session));
     return 0;
 }

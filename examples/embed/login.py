@@ -1,6 +1,6 @@
 """Lays out the login form, drags its divider, and prints the frames and what moved."""
 import sys
-from layout import LayoutError, Session
+from layout import LayoutError, Session, status_name
 
 session, names = Session(), {}
 
@@ -29,3 +29,11 @@ try:
     session.line("window 100 100")
 except LayoutError as refusal:
     print("refused:", refusal.args[1][0])
+print("all views")
+for view, frame in session.frames().items():
+    print(" ", session.name(view), *frame)
+session.close()
+try:
+    session.undo()
+except LayoutError as none:
+    print(f"status {none.args[0]}: {status_name(none.args[0])}")

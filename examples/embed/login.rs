@@ -45,5 +45,11 @@ fn main() -> Result<(), layout::Fault> {
     if let Err(layout::Fault::Refused(reply)) = session.line("window 100 100") {
         println!("refused: {}", reply.lines().next().unwrap_or(""));
     }
+    println!("all views");
+    for placed in session.frames().unwrap_or_default() {
+        let [left, top, width, height] = placed.frame;
+        println!("  {} {left} {top} {width} {height}", session.name(placed.view).unwrap_or_default());
+    }
+    println!("status 2: {}", layout::status_name(2).unwrap_or_default());
     Ok(())
 }

@@ -1,6 +1,6 @@
 -- What the calls of a session come to.
 use Rattle.std.specs.Prelude.{◌≡◌, ◌⊎◌, ◌≤◌, ◌<◌, ℕ, ℤ, pos, ◌<ℤ◌, ◌≤ℤ◌, length, take, slice_get}
-use Rattle.std.specs.Prelude.{Bool, true, false}
+use Rattle.std.specs.Prelude.{Bool, true, false, ⊤}
 use Rattle.std.specs.Prelude.{List, [], ◌∷◌, Option, Some, None}
 use Rattle.std.specs.declared.result.Result.{Result}
 use Rattle.std.specs.declared.result.Result.TheVariants.{Ok, Err}
@@ -13,8 +13,8 @@ use Rattle.script_text.specs.Meaning as mean
 use Rattle.script_text.specs.declared.words.AttrWord.{AttrWord}
 use Rattle.script_text.specs.declared.words.AttrWord.TheVariants as word
 use Rattle.scenes.specs.Scene.{Scene}
-use Rattle.scenes.specs.Frames.{IsFrameOf}
-use Rattle.view_tree.specs.Views.{view_named, view_of}
+use Rattle.scenes.specs.Frames.{IsFrameOf, frame_of}
+use Rattle.view_tree.specs.Views.{LiveView, view_named, view_of}
 use Rattle.corner_view.specs.Moves.{AreMovedSince}
 use Rattle.session_undo.specs.Machine.{ChangeStep}
 use Rattle.session_undo.specs.Replies.{Reply, is_accepted}
@@ -25,8 +25,10 @@ use Rattle.session_undo.specs.declared.reply.Refusal.TheVariants.{OutOfMemory}
 use Rattle.layout_cli.specs.Machine.{Talking, Talks}
 use Rattle.layout_c.specs.declared.calls.Ratio.{Ratio}
 use Rattle.layout_c.specs.declared.calls.Frame.{Frame}
+use Rattle.layout_c.specs.declared.frames.Placed.{Placed}
 use Rattle.layout_c.specs.declared.status.TheConstants.{DONE, REFUSED, NONE, OUT_OF_MEMORY}
 use Rattle.layout_c.specs.declared.status.TheConstants.{TOO_LONG, WRITE_FAULT}
+use Rattle.layout_c.specs.Status.{status_names}
 
 -- ---- a command
 
@@ -157,3 +159,44 @@ IsFramed scene id frame answer =
     ((answer ≡ DONE)
     × ((fractions : List Fraction) × IsFrameOf scene id fractions × AreRatios frame fractions))
     ⊎ ((answer ≡ NONE) × (view_of scene.tree.views id ≡ None))
+
+-- the text stands in the room that was given, or isn't written where that is too small: then its length tells
+-- how much is asked for
+abbrev pub IsPut : (text room out : List ℕ) → ℕ → ℕ → Type 0
+IsPut text room out used answer = (used ≡ length text)
+    × (((length text ≤ length room) × (take used out ≡ text) × (answer ≡ DONE))
+    ⊎ ((length room < length text) × (out ≡ room) × (answer ≡ WRITE_FAULT)))
+
+-- nothing is written, and the answer says that there is no such thing
+abbrev pub IsNotPut : (room out : List ℕ) (before used : ℕ) → ℕ → Type 0
+IsNotPut room out before used answer = (answer ≡ NONE) × (out ≡ room) × (used ≡ before)
+
+-- the name of a status is put; or no status has the number
+abbrev pub IsStatusNamed : ℕ → (room out : List ℕ) (before used : ℕ) → ℕ → Type 0
+IsStatusNamed status room out before used answer =
+    ((name : List ℕ) × (slice_get status_names status ≡ Some name) × IsPut name room out used answer)
+    ⊎ ((slice_get status_names status ≡ None) × IsNotPut room out before used answer)
+
+-- the name of the view of a number is put; or there is no such view
+abbrev pub IsNamed : Scene → ℕ → (room out : List ℕ) (before used : ℕ) → ℕ → Type 0
+IsNamed scene id room out before used answer =
+    ((v : LiveView) × (view_of scene.tree.views id ≡ Some v) × IsPut v.name room out used answer)
+    ⊎ ((view_of scene.tree.views id ≡ None) × IsNotPut room out before used answer)
+
+-- the number of a view, with its frame
+abbrev pub IsPlaced : Scene → LiveView → Placed → Type 0
+IsPlaced scene v placed = (placed.view ≡ v.id) × AreRatios placed.frame (frame_of scene.values v.id)
+
+-- these are the numbers of the views with their frames, one after the other
+abbrev pub AreFrames : Scene → List LiveView → List Placed → Type 0
+AreFrames scene [] [] = ⊤
+AreFrames scene (v ∷ views) (p ∷ placed) = IsPlaced scene v p × AreFrames scene views placed
+AreFrames scene views placed = ⊥
+
+-- The numbers and frames of all views stand, in order of creation, in the room that was given, or aren't
+-- written where that is too small. In both cases their count is told.
+abbrev pub AreFramed : Scene → (room out : List Placed) → ℕ → ℕ → Type 0
+AreFramed scene room out count answer = (count ≡ length scene.tree.views)
+    × (((length scene.tree.views ≤ length room) × AreFrames scene scene.tree.views (take count out)
+    × (answer ≡ DONE))
+    ⊎ ((length room < length scene.tree.views) × (out ≡ room) × (answer ≡ WRITE_FAULT)))

@@ -1,5 +1,5 @@
 -- What a call's number says.
-use Rattle.std.specs.Prelude.{ℕ}
+use Rattle.std.specs.Prelude.{ℕ, List, [], ◌∷◌, codes}
 use Rattle.layout_cli.specs.declared.program.Status.{Status}
 use Rattle.layout_cli.specs.declared.program.Status.TheVariants.{Done, Refused, Usage, ReadFault, WriteFault}
 use Rattle.layout_cli.specs.declared.program.Status.TheVariants.{OutOfMemory, TooLong}
@@ -15,3 +15,8 @@ status_code ReadFault = READ_FAULT
 status_code WriteFault = WRITE_FAULT
 status_code OutOfMemory = OUT_OF_MEMORY
 status_code TooLong = TOO_LONG
+
+-- what each status is called, by its number
+abbrev pub status_names : List (List ℕ)
+status_names = codes "done" ∷ codes "refused" ∷ codes "none" ∷ codes "read fault" ∷ codes "no room"
+    ∷ codes "out of memory" ∷ codes "too long" ∷ []

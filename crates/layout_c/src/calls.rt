@@ -186,19 +186,27 @@ fn parts_of(f: Frac) -> Ratio
     }
 }
 
+/// The frame with these sides.
+pub(crate) fn framed(sides: [Frac; 4]) -> Frame
+    ensures { AreRatios result sides }
+{
+    let [left, top, width, height] = sides;
+    Frame {
+        left: parts_of(left),
+        top: parts_of(top),
+        width: parts_of(width),
+        height: parts_of(height),
+    }
+}
+
 /// The frame of a view.
 pub(crate) fn frame_of(session: &Session, view: u32) -> Option<Frame>
     ensures some { IfSome result (λ frame. (fractions : List Fraction)
         × IsFrameOf session.now.scene view fractions × AreRatios frame fractions) }
     ensures none { IfNone result (live_view session.now.scene.tree.views view ≡ None) }
 {
-    let [left, top, width, height] = session.frame(ViewId(view))?;
-    Some(Frame {
-        left: parts_of(left),
-        top: parts_of(top),
-        width: parts_of(width),
-        height: parts_of(height),
-    })
+    let sides = session.frame(ViewId(view))?;
+    Some(framed(sides))
 }
 
 // Puts the reply to a line where there is room for it.

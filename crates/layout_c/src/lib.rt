@@ -18,29 +18,53 @@
 //! where it had one before.
 //!
 //! In reading order: `status` (what a call answers), `runs` (a whole script), `held` (the handle), `calls`
-//! (what is done with its session). Here are the exports, each of which takes the session out of its handle,
-//! calls the function of its name, and puts the session back.
+//! (what is done with its session), `names` and `frames` (what is read from it). Here are the exports: each
+//! takes the session out of its handle, calls the function of its name, and puts the session back.
 #![tactic(auto)]
 
 mod calls;
+mod frames;
 mod held;
+mod names;
 mod runs;
 mod status;
 
 ghost use Rattle.std.specs.Prelude.{◌≡◌, ◌⊎◌, ◌≤◌, MatchOption, None, length, take};
-ghost use Rattle.layout_c.specs.Calls.{AreListed, IsAnswered, IsFound, IsFramed, IsNewSession, OnHeld};
-ghost use Rattle.layout_c.specs.Calls.{Releases, Resizes, Steps, Suggests};
+ghost use Rattle.layout_c.specs.Calls.{AreFramed, AreListed, IsAnswered, IsFound, IsFramed};
+ghost use Rattle.layout_c.specs.Calls.{IsNewSession, OnHeld};
+ghost use Rattle.layout_c.specs.Calls.{IsNamed, IsStatusNamed, Releases, Resizes, Steps, Suggests};
 ghost use Rattle.layout_c.specs.Runs.{IsAnswerTo};
 ghost use Rattle.script_text.specs.Meaning as mean;
 ghost use Rattle.session_undo.specs.Machine.{PlainStep};
+ghost use Rattle.layout_c.specs.declared.status.TheConstants.{VERSION as version_now};
 
 use crate::calls::{answer, frame_of, fresh, moved, release, resize, suggest, undo, view_of};
 pub use crate::calls::{Frame, Ratio};
+pub use crate::frames::Placed;
+use crate::frames::put_frames;
 use crate::held::Held;
+use crate::names::{put_name, put_status_name};
 use crate::runs::run_here;
-use crate::status::{DONE, NONE, OUT_OF_MEMORY, code_of};
+use crate::status::{DONE, NONE, OUT_OF_MEMORY, VERSION, code_of};
 use frac_core::OutOfMemory;
 use std::alloc::Global;
+
+/// The version of the library, as LAYOUT_VERSION in the header that belongs to it.
+#[unsafe(no_mangle)]
+pub extern "C" fn layout_version() -> u32
+    ensures { result ≡ version_now }
+{
+    VERSION
+}
+
+/// What a status is called, in front of `name`, `used` bytes long; where the answer says that writing failed
+/// there was no room for it, and `used` says how much it asks for.
+#[unsafe(no_mangle)]
+pub extern "C" fn layout_status_name(status: u8, name: &mut [u8], used: &mut usize) -> u8
+    ensures { IsStatusNamed status name.old name.new used.old used.new result }
+{
+    put_status_name(status, name, used)
+}
 
 /// Answers a whole script into `out`. The first `used` bytes of it are the replies then, or a front of them
 /// where the answer says that writing failed: there was no room for all.
@@ -198,6 +222,29 @@ pub extern "C" fn layout_view(alloc: Global, session: &mut Held, name: &[u8], vi
     }
 }
 
+/// The name of the view of a number, in front of `name`, `used` bytes long; where the answer says that
+/// writing failed there was no room for it, and `used` says how much it asks for.
+#[unsafe(no_mangle)]
+pub extern "C" fn layout_name(
+    alloc: Global,
+    session: &mut Held,
+    view: u32,
+    name: &mut [u8],
+    used: &mut usize,
+) -> u8
+    ensures { OnHeld session.old.session session.new.session result (λ old new.
+        (new ≡ old) × IsNamed old.state.scene view name.old name.new used.old used.new result) }
+{
+    match session.take(alloc) {
+        Some(desk) => {
+            let end = put_name(desk.session(), view, name, used);
+            session.put(desk);
+            end
+        }
+        None => NONE,
+    }
+}
+
 /// The frame of a view, in window coordinates, in `frame`.
 #[unsafe(no_mangle)]
 pub extern "C" fn layout_frame(
@@ -214,6 +261,28 @@ pub extern "C" fn layout_frame(
             let found = frame_of(desk.session(), view);
             session.put(desk);
             put_frame(found, frame)
+        }
+        None => NONE,
+    }
+}
+
+/// The frames of all views, in order of creation, each with its view's number, in front of `frames`; `count`
+/// says how many they are. Where the answer says that writing failed there was no room for them.
+#[unsafe(no_mangle)]
+pub extern "C" fn layout_frames(
+    alloc: Global,
+    session: &mut Held,
+    frames: &mut [Placed],
+    count: &mut usize,
+) -> u8
+    ensures { OnHeld session.old.session session.new.session result (λ old new.
+        (new ≡ old) × AreFramed old.state.scene frames.old frames.new count.new result) }
+{
+    match session.take(alloc) {
+        Some(desk) => {
+            let end = put_frames(desk.session(), frames, count);
+            session.put(desk);
+            end
         }
         None => NONE,
     }

@@ -1,6 +1,7 @@
 // What a call answers: one number for each way in which it ends.
-ghost use Rattle.std.specs.Prelude.{◌≡◌};
-ghost use Rattle.layout_c.specs.Status.{status_code};
+ghost use Rattle.std.specs.Prelude.{◌≡◌, slice_get};
+ghost use Rattle.std.specs.Option.{option_map};
+ghost use Rattle.layout_c.specs.Status.{status_code, status_names};
 
 use layout_cli::Status;
 
@@ -24,6 +25,25 @@ pub const OUT_OF_MEMORY: u8 = 5;
 
 /// The input is past its limit.
 pub const TOO_LONG: u8 = 6;
+
+/// The version of the library: 10000 * major + 100 * minor + patch, as LAYOUT_VERSION in `layout.h`.
+pub const VERSION: u32 = 200;
+
+/// What a status is called.
+pub(crate) fn name_of_status(status: u8) -> Option<&'static str>
+    ensures { option_map (λ name. name.now) result ≡ slice_get status_names status }
+{
+    let names = [
+        "done",
+        "refused",
+        "none",
+        "read fault",
+        "no room",
+        "out of memory",
+        "too long",
+    ];
+    names.get(usize::from(status)).copied()
+}
 
 /// The number for how a run ended.
 pub(crate) fn code_of(status: Status) -> u8
