@@ -6,7 +6,7 @@ It runs kiwi_peer.py over the operations under valgrind's callgrind, with the sa
 solver's methods with everything that they call, by the calls from outside the binding's module. The module has no symbols, so
 the beginning of a method is read from its table of methods, where each name is before its address. The work of python, and
 the making of terms and constraints, isn't counted. With `live` kiwi_peer.py
-runs with it too, and only the changes of edit variables and the updates after them are counted.
+runs with it too, and only what it makes with an update after each operation is counted.
 """
 import os
 import re

@@ -4,7 +4,7 @@
 
 With `read` it only reads the operations, so that the cost of reading can be subtracted. With `values` it prints the values. With
 `live` the priorities become strengths by their order, so the window outweighs all of them, and the values are updated after
-each change of an edit variable.
+each change of an edit variable, or after each operation behind a line `count`.
 """
 import os
 import sys
@@ -23,7 +23,7 @@ def strength(priority, weight=1):
 
 def strengths_by_order(operations):
     """A strength for each priority: each outweighs a thousand of the next weaker one."""
-    priorities = {int(words[2]) for words in operations if words[0] in ("add", "change")} - {1000}
+    priorities = {int(words[2]) for words in operations if words[0] in ("add", "change", "edit")} - {1000}
     by_order = {priority: min(1000.0**i, WINDOW / 10) for i, priority in enumerate(sorted(priorities))}
     by_order[1000] = kiwi.strength.required
     return lambda priority, weight=1: by_order[priority] * weight if priority != 1000 else by_order[priority]
@@ -74,12 +74,17 @@ class Peer:
 
 
 def resize(operations):
-    """Makes all but the changes of edit variables, and then each of these by itself with an update of all values."""
+    """Makes what is before `count`, and then each other operation by itself with an update of all values. Without a
+    `count` all but the changes of edit variables is made first."""
     peer = Peer(strengths_by_order(operations))
-    changes = [words for words in operations if words[0] == "set"]
-    for words in operations:
-        if words[0] != "set":
-            peer.follow(words)
+    if ["count"] in operations:
+        at = operations.index(["count"])
+        first, changes = operations[:at], operations[at + 1 :]
+    else:
+        first = [words for words in operations if words[0] != "set"]
+        changes = [words for words in operations if words[0] == "set"]
+    for words in first:
+        peer.follow(words)
     peer.solver.updateVariables()
     os.getppid()  # kiwi_alone.py begins to count here
     for words in changes:
